@@ -1,8 +1,8 @@
 //! A run of a store, over another, that is stopped at each of its operations, and after it an opening that is
 //! stopped at each of its own; and one of whose making or opening each operation fails.
 use crate::stores::{
-    Device, Found, OpenStore, Store, TINY, enter, entered, found_on, look, make, opened, stage,
-    tiny_text,
+    Device, Found, OpenStore, Store, TINY, enter, entered, found_on, look, made, make, opened,
+    read, stage, tiny_text,
 };
 use dns_fixtures::{blank, choices, crashed, plan};
 use dns_memory::{Heap, heap};
@@ -207,5 +207,35 @@ fn making_and_opening_fail(rt: HostRuntime) -> Result<(), Fail> {
             "operation {n}"
         );
     }
+    Ok(())
+}
+
+/// How often the store of a device was opened, as its root says: a number of eight octets after the first
+/// four.
+fn openings_in_root(device: &mut Device) -> Option<u64> {
+    let root = read(device, 0)?;
+    let mut octets = [0u8; 8];
+    octets.copy_from_slice(&root[4..12]);
+    Some(u64::from_be_bytes(octets))
+}
+
+/// The same of a store that was opened once, when an opening was stopped after it wrote the root, the write
+/// was kept or lost, and the store was opened again.
+fn openings_after_stop(heap: Heap, choice: usize) -> Option<u64> {
+    let plan = plan(heap)?;
+    let device = made(heap, &TINY, plan.clone().ok()?)?;
+    let (device, _) = look(heap, device, &TINY);
+    plan.stop_at(2);
+    let (device, _) = look(heap, device, &TINY);
+    plan.reset();
+    let (mut device, _) = look(heap, crashed(heap, device, choice)?, &TINY);
+    openings_in_root(&mut device)
+}
+
+#[test]
+fn the_root_after_an_opening_that_is_stopped(rt: HostRuntime) -> Result<(), Fail> {
+    let heap = heap(rt.alloc())?;
+    assert_eq!(rt; openings_after_stop(heap, 1), Some(3));
+    assert_eq!(rt; openings_after_stop(heap, 0), Some(2));
     Ok(())
 }

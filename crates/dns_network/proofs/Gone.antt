@@ -1,5 +1,5 @@
 -- Connections that are unused or stalled are gone after they were visited.
-use Rattle.std.proofs.Common.{◌≡◌, ◌⊎◌, inl, inr, ℕ, zero, suc, ◌+◌, ◌<◌, ◌≤◌, List, [], ◌∷◌, length, Option, Some, None, refl, ap, sym, subst, ◌∙◌, arith}
+use Rattle.std.proofs.Common.{◌≡◌, ◌⊎◌, inl, inr, ℕ, zero, suc, ◌+◌, ◌<◌, ◌≤◌, Bool, false, List, [], ◌∷◌, ◌++◌, length, Option, Some, None, refl, ap, sym, subst, ◌∙◌, arith}
 use Rattle.std.specs.Prelude.{slice_get}
 use Rattle.dns_zone.specs.declared.index.ZoneIndex as index
 use Rattle.dns_store.specs.declared.zone_store.ZoneStore as store
@@ -15,8 +15,10 @@ use Rattle.dns_network.specs.Closing.{Cause, HasEnded, Silent, Stalled, NoMemory
 use Rattle.dns_network.specs.Connection.{IsInUse, IsStalled, IsUnused, IsUnusedOrInUse, used_of}
 use Rattle.dns_network.specs.Connections.{IsOpenWith}
 use Rattle.dns_network.specs.Delivery.{Served}
-use Rattle.dns_network.specs.Turn.{TurnMoment, Asks, Moves, Connects, Refuses, Happens, Closes, AreMoments, EventComes, IsCauseNoted, IsMoment, IsPlaced, MomentsLead}
-use Rattle.dns_network.proofs.Leads.{and_on}
+use Rattle.dns_network.specs.Turn.{TurnMoment, Asks, Moves, Connects, Refuses, Happens, Closes, AreMoments, EventComes, IsCauseNoted, IsMoment, IsPlaced}
+use Rattle.dns_network.specs.Turns.{AreIdle, EachHasItsPart, HasItsPart}
+use Rattle.dns_network.proofs.Leads.{MomentsLead, and_on}
+use Rattle.dns_network.proofs.Parts.{idle_on}
 use Rattle.dns_network.proofs.Running.{moments_kept}
 use Rattle.dns_network.proofs.Used.{Is, IsStalledOrUsed, Lasts, either, gone_stays, in_use_lasts, inside, open_gone, put_stays, set_stays, stalled_lasts, unused_lasts, used_lasts, weaker}
 use Rattle.dns_network.proofs.Visited.{effects_stay}
@@ -119,64 +121,72 @@ module _ {I D S N L : Type 0} {i : index.Ghosts I} {d : store.Ghosts D} (s : str
         | inr used ↦ lead_is (λ c. used_of c ≡ now) (used_lasts s now) number mid new visit used
       ]
 
-  -- Those with numbers below this one were visited, and what was done leads here.
-  pub record AreVisited (below : ℕ) (old new : Served I D S N L i d) : Type 0 where
+  -- Those with numbers below this one were visited, whether something was done or not, and what was done leads here.
+  pub record AreVisited (below : ℕ) (done : Bool) (old new : Served I D S N L i d) : Type 0 where
     pub leads : MomentsLead s n l now old new
+    pub parts : (moments : List TurnMoment) × EachHasItsPart s n l now below moments old new × (done ≡ false → AreIdle moments)
     pub unused : (m : Machine) → IsKept old.primary m → (number : ℕ) → number < below → IsOpenWith (IsUnused now) (slice_get old.connections number)
         → Is (IsInUse now) number new.connections
     pub stalled : (number : ℕ) → number < below → IsOpenWith (IsStalled now) (slice_get old.connections number)
         → Is (λ c. used_of c ≡ now) number new.connections
 
-  visited_unused : (at : ℕ) (old mid new : Served I D S N L i d) → AreVisited at old mid → MomentsLead s n l now mid new
+  visited_unused : (at : ℕ) (done : Bool) (old mid new : Served I D S N L i d) → AreVisited at done old mid → MomentsLead s n l now mid new
       → ((e : Machine) → IsKept mid.primary e → IsOpenWith (IsUnused now) (slice_get mid.connections at) → Is (IsInUse now) at new.connections)
       → (m : Machine) → IsKept old.primary m → (number : ℕ) → (number < at) ⊎ (number ≡ at) → IsOpenWith (IsUnused now) (slice_get old.connections number)
       → Is (IsInUse now) number new.connections
-  visited_unused at old mid new before visit gone m kept number (inl below) is =
+  visited_unused at done old mid new before visit gone m kept number (inl below) is =
       lead_is (IsInUse now) (in_use_lasts s now) number mid new visit (before.unused m kept number below is)
-  visited_unused at old mid new before visit gone m kept number (inr same) is =
+  visited_unused at done old mid new before visit gone m kept number (inr same) is =
       subst (λ (k : ℕ). Is (IsInUse now) k new.connections) (sym same)
       (unused_gone at old mid new m before.leads visit gone kept
       (subst (λ (k : ℕ). IsOpenWith (IsUnused now) (slice_get old.connections k)) same is))
 
-  visited_stalled : (at : ℕ) (old mid new : Served I D S N L i d) → AreVisited at old mid → MomentsLead s n l now mid new
+  visited_stalled : (at : ℕ) (done : Bool) (old mid new : Served I D S N L i d) → AreVisited at done old mid → MomentsLead s n l now mid new
       → (IsOpenWith (IsStalled now) (slice_get mid.connections at) → Is (λ c. used_of c ≡ now) at new.connections)
       → (number : ℕ) → (number < at) ⊎ (number ≡ at) → IsOpenWith (IsStalled now) (slice_get old.connections number)
       → Is (λ c. used_of c ≡ now) number new.connections
-  visited_stalled at old mid new before visit gone number (inl below) is =
+  visited_stalled at done old mid new before visit gone number (inl below) is =
       lead_is (λ c. used_of c ≡ now) (used_lasts s now) number mid new visit (before.stalled number below is)
-  visited_stalled at old mid new before visit gone number (inr same) is =
+  visited_stalled at done old mid new before visit gone number (inr same) is =
       subst (λ (k : ℕ). Is (λ c. used_of c ≡ now) k new.connections) (sym same)
       (stalled_gone at old mid new before.leads visit gone
       (subst (λ (k : ℕ). IsOpenWith (IsStalled now) (slice_get old.connections k)) same is))
 
-  pub none_visited : (old : Served I D S N L i d) → AreVisited 0 old old
+  pub none_visited : (old : Served I D S N L i d) → AreVisited 0 false old old
   none_visited old = record {
     leads = ([], refl);
+    parts = ([], (refl, refl), λ idle. tt);
     unused = λ m kept number below is. absurd (omega (arith, below));
     stalled = λ number below is. absurd (omega (arith, below));
   }
 
   -- the next one is visited
-  pub one_visited : (at : ℕ) (old mid new : Served I D S N L i d) → AreVisited at old mid → MomentsLead s n l now mid new
+  pub one_visited : (at : ℕ) (before one done : Bool) (old mid new : Served I D S N L i d) → (done ≡ false → before ≡ false) → (done ≡ false → one ≡ false)
+      → AreVisited at before old mid → (moments : List TurnMoment) × HasItsPart s n l now at moments mid new × (one ≡ false → AreIdle moments)
       → ((e : Machine) → IsKept mid.primary e → IsOpenWith (IsUnused now) (slice_get mid.connections at) → Is (IsInUse now) at new.connections)
       → (IsOpenWith (IsStalled now) (slice_get mid.connections at) → Is (λ c. used_of c ≡ now) at new.connections)
-      → AreVisited (at + 1) old new
-  one_visited at old mid new before visit unused stalled = record {
-    leads = and_on s n l now old mid new before.leads visit;
-    unused = λ m kept number below is. visited_unused at old mid new before visit unused m kept number (split number at below) is;
-    stalled = λ number below is. visited_stalled at old mid new before visit stalled number (split number at below) is;
-  }
+      → AreVisited (at + 1) done old new
+  one_visited at before one done old mid new not_before not_one visited (moments, part, idle) unused stalled =
+      let visit : MomentsLead s n l now mid new = (moments, part.are) in
+      let (first, each, idle_before) = visited.parts in
+      let next : suc at ≡ at + 1 = omega arith in
+      record {
+        leads = and_on s n l now old mid new visited.leads visit;
+        parts = (first ++ moments, subst (λ (k : ℕ). EachHasItsPart s n l now k (first ++ moments) old new) next (first, moments, mid, refl, each, part), λ none. idle_on first moments (idle_before (not_before none)) (idle (not_one none)));
+        unused = λ m kept number below is. visited_unused at before old mid new visited visit unused m kept number (split number at below) is;
+        stalled = λ number below is. visited_stalled at before old mid new visited visit stalled number (split number at below) is;
+      }
 
   -- all of them are
-  pub all_unused : (below : ℕ) (old new : Served I D S N L i d) → length old.connections ≤ below → AreVisited below old new → (m : Machine) → IsKept old.primary m
+  pub all_unused : (below : ℕ) (done : Bool) (old new : Served I D S N L i d) → length old.connections ≤ below → AreVisited below done old new → (m : Machine) → IsKept old.primary m
       → UnusedAreGone now old.connections new.connections
-  all_unused below old new all visited m kept = λ number is.
+  all_unused below done old new all visited m kept = λ number is.
       let less = inside (IsUnused now) number old.connections is in
       visited.unused m kept number (omega (arith, less, all)) is
 
-  pub all_stalled : (below : ℕ) (old new : Served I D S N L i d) → length old.connections ≤ below → AreVisited below old new
+  pub all_stalled : (below : ℕ) (done : Bool) (old new : Served I D S N L i d) → length old.connections ≤ below → AreVisited below done old new
       → StalledAreGone now old.connections new.connections
-  all_stalled below old new all visited = λ number is.
+  all_stalled below done old new all visited = λ number is.
       let less = inside (IsStalled now) number old.connections is in
       visited.stalled number (omega (arith, less, all)) is
 

@@ -10,7 +10,7 @@ use Rattle.dns_network.specs.declared.stream.Moved.{Moved}
 use Rattle.dns_network.specs.declared.stream.Moved.TheVariants.{Ended}
 use Rattle.dns_network.specs.declared.stream.Stream as stream
 use Rattle.dns_network.specs.Closing.{Cause, GivesCause, HasEnded, NoMemory}
-use Rattle.dns_network.specs.Connection.{HasLost, held_of, rest_of, stream_of, unhandled}
+use Rattle.dns_network.specs.Connection.{HasLost, MovesOn, held_of, rest_of, stream_of, unhandled}
 use Rattle.dns_network.specs.Connections.{HasBecome, HasMovedAt, IsOpenWith}
 use Rattle.dns_zone.specs.declared.index.ZoneIndex as index
 use Rattle.dns_store.specs.declared.zone_store.ZoneStore as store
@@ -29,7 +29,8 @@ use Rattle.dns_network.specs.declared.network.Network.{Ghosts}
 use Rattle.dns_network.specs.declared.network.Note.TheVariants as note
 use Rattle.dns_network.specs.declared.network.Notes as notes
 use Rattle.dns_network.specs.Delivery.{Served, Going, TakesEvent, AreGoing, AreSent, HasEffects, IsSent, reply_to_send}
-use Rattle.dns_network.specs.Turn.{TurnMoment, Asks, Moves, Happens, Closes, HasAsked, HasHappened, EventComes, IsCauseNoted, IsMoment, AreDone, MomentsLead, NoneWaits}
+use Rattle.dns_network.specs.Turn.{TurnMoment, Asks, Moves, Happens, Closes, AreMoments, HasAsked, HasHappened, EventComes, IsCauseNoted, IsMoment, NoneWaits}
+use Rattle.dns_network.specs.Turns.{AreDone, HasParts}
 use Rattle.dns_network.proofs.Pushed.{set_there}
 use Rattle.dns_network.proofs.Steps.{steps_on}
 
@@ -70,7 +71,7 @@ module _ {S : Type 0} (s : stream.Ghosts S) where
   -- a stream that a read or a write told to have ended is there, and has
   pub ends : (now number : ℕ) (moved : Moved) (old new : List (Option (Connection S))) → moved ≡ Ended → HasMovedAt s now number moved old new
       → GivesCause s now HasEnded number new
-  ends now number moved old new is (inl (lasts, same)) = absurd (lasts is)
+  ends now number moved old new is (inl (closed, lasts, same)) = absurd (lasts is)
   ends now number moved old new is (inr (c, d, there, on, set)) =
       let at : slice_get new number ≡ Some (Some d) =
       ap (λ (cs : List (Option (Connection S))). slice_get cs number) set ∙ set_there old number (Some c) (Some d) there in
@@ -88,7 +89,20 @@ module _ {S : Type 0} (s : stream.Ghosts S) where
   closed_then became number old mid new (c, d, there, on, set) gone =
       closed_still number (slice_set old number (Some d)) mid new set gone ∙ set-set old number (Some d) None
 
+module _ {I D S N L : Type 0} {i : index.Ghosts I} {d : store.Ghosts D} where
+  -- Nothing else is done from here to there, in this second.
+  abbrev pub MomentsLead : stream.Ghosts S → Ghosts N S → notes.Ghosts L → ℕ → Served I D S N L i d
+      → Served I D S N L i d → Type 0
+  MomentsLead s n l now old new = (moments : List TurnMoment) × AreMoments s n l now moments old new
+
 module _ {I D S N L : Type 0} {i : index.Ghosts I} {d : store.Ghosts D} (s : stream.Ghosts S) (n : Ghosts N S) (l : notes.Ghosts L) (now : ℕ) where
+  pub one_moment : (one : TurnMoment) (a b : Served I D S N L i d) → IsMoment s n l now one a b → AreMoments s n l now (one ∷ []) a b
+  one_moment one a b h = (b, h, refl)
+
+  pub two_moments : (one other : TurnMoment) (a b c : Served I D S N L i d) → IsMoment s n l now one a b → IsMoment s n l now other b c
+      → AreMoments s n l now (one ∷ other ∷ []) a c
+  two_moments one other a b c h more = (b, h, (c, more, refl))
+
   pub by_one : (one : TurnMoment) (a b : Served I D S N L i d) → IsMoment s n l now one a b → MomentsLead s n l now a b
   by_one one a b h = (one ∷ [], (b, h, refl))
 
@@ -109,49 +123,45 @@ module _ {I D S N L : Type 0} {i : index.Ghosts I} {d : store.Ghosts D} (s : str
       by_one (Happens event effects goings) old new (happened event effects goings old given told new is_given takes rest is)
 
   -- a turn after which no reply waits, and one after which one does
-  pub not_flushed : (old new : Served I D S N L i d) → MomentsLead s n l now old new → NoneWaits new.primary
-      → (moments : List TurnMoment) × AreDone s n l now moments old new
-  not_flushed old new (moments, done) none =
-      (moments ++ [], record { first = moments; last = []; are = refl; between = new; done = done; flushed = refl; flush = inl (refl, none) })
+  pub not_flushed : (rested : Option ℕ) (moments : List TurnMoment) (old new : Served I D S N L i d) → AreMoments s n l now moments old new
+      → HasParts s n l now rested moments old new → NoneWaits new.primary → AreDone s n l now rested (moments ++ []) old new
+  not_flushed rested moments old new done parts none =
+      record { first = moments; last = []; are = refl; between = new; done = done; parts = parts; flushed = refl; flush = inl (refl, none) }
 
-  pub flush_after : (old done looked flushed new : Served I D S N L i d) (effects : Effects) (goings : List Going) → MomentsLead s n l now old done
+  pub flush_after : (rested : Option ℕ) (moments : List TurnMoment) (old done looked flushed new : Served I D S N L i d) (effects : Effects) (goings : List Going)
+      → AreMoments s n l now moments old done → HasParts s n l now rested moments old done
       → HasAsked n done looked → HasHappened n l now Flush effects goings looked flushed → HasAsked n flushed new
-      → (moments : List TurnMoment) × AreDone s n l now moments old new
-  flush_after old done looked flushed new effects goings (moments, first) before flush pending =
-      let last = Asks ∷ Happens Flush effects goings ∷ Asks ∷ [] in (
-        moments ++ last,
-        record {
-          first = moments;
-          last = last;
-          are = refl;
-          between = done;
-          done = first;
-          flushed = (looked, before, (flushed, flush, (new, pending, refl)));
-          flush = inr (effects, goings, refl);
-        },
-      )
+      → AreDone s n l now rested (moments ++ Asks ∷ Happens Flush effects goings ∷ Asks ∷ []) old new
+  flush_after rested moments old done looked flushed new effects goings first parts before flush pending = record {
+    first = moments;
+    last = Asks ∷ Happens Flush effects goings ∷ Asks ∷ [];
+    are = refl;
+    between = done;
+    done = first;
+    parts = parts;
+    flushed = (looked, before, (flushed, flush, (new, pending, refl)));
+    flush = inr (effects, goings, refl);
+  }
 
   -- octets may have moved on a connection
   pub moves : (number : ℕ) (moved : Moved) (primary : Primary I D i d) (network : N) (notes : L) (old new : List (Option (Connection S)))
-      → HasMovedAt s now number moved old new → MomentsLead s n l now (standing primary network notes old) (standing primary network notes new)
-  moves number moved primary network notes old new (inl (lasts, same)) = ([], ap (standing primary network notes) same)
-  moves number moved primary network notes old new (inr (c, e, there, on, is)) =
-      by_one (Moves number) (standing primary network notes old) (standing primary network notes new)
-      (record { before = c; after = e; there = there; moved = on.moved; rest = ap (standing primary network notes) is })
+      → HasBecome (MovesOn s now moved) number old new
+      → IsMoment s n l now (Moves number) (standing primary network notes old) (standing primary network notes new)
+  moves number moved primary network notes old new (c, e, there, on, is) =
+      record { before = c; after = e; there = there; moved = on.moved; rest = ap (standing primary network notes) is }
 
   -- a connection gave a cause to close it, and was closed
   pub closes : (number : ℕ) (cause : Cause) (before after : Primary I D i d) (network : N) (first mid last : L) (old new : List (Option (Connection S)))
       → GivesCause s now cause number old → IsCauseNoted l cause (standing before network first old) (standing before network mid old)
       → (effects : Effects) × TakesEvent before (Closed number) after effects → new ≡ slice_set old number None → l.takes mid (note.Closed number) last
-      → MomentsLead s n l now (standing before network first old) (standing after network last new)
+      → IsMoment s n l now (Closes number cause) (standing before network first old) (standing after network last new)
   closes number cause before after network first mid last old new gives told (effects, takes) gone noted =
-      by_one (Closes number cause) (standing before network first old) (standing after network last new)
-      (record {
+      record {
         gives = gives;
         told = standing before network mid old;
         noted = told;
         closed = record { effects = effects; told = takes; gone = gone; network = refl; noted = noted };
-      })
+      }
 
 module _ {I D S N L : Type 0} {i : index.Ghosts I} {d : store.Ghosts D} (n : Ghosts N S) (l : notes.Ghosts L) where
   going_on : (first later : List Going) (a b c : Served I D S N L i d) → AreGoing n l first a b → AreGoing n l later b c → AreGoing n l (first ++ later) a c

@@ -4,6 +4,7 @@ mod Gone
 mod Leads
 pub mod Left
 pub mod Noted
+mod Parts
 mod ReadAhead
 pub mod Running
 pub mod Steps

@@ -1,5 +1,5 @@
 -- What is noted in turns.
-use Rattle.std.proofs.Common.{◌≡◌, ◌⊎◌, inl, inr, ℕ, ◌<◌, Bool, true, false, List, [], ◌∷◌, ◌++◌, length, refl, ap, sym, subst, ◌∙◌}
+use Rattle.std.proofs.Common.{◌≡◌, ◌⊎◌, inl, inr, ℕ, ◌<◌, Bool, true, false, Option, List, [], ◌∷◌, ◌++◌, length, refl, ap, sym, subst, ◌∙◌}
 use Rattle.dns_network.specs.declared.stream.Stream as stream
 use Rattle.dns_zone.specs.declared.index.ZoneIndex as index
 use Rattle.dns_store.specs.declared.zone_store.ZoneStore as store
@@ -16,7 +16,8 @@ use Rattle.dns_network.specs.Delivery.{ClosedInstead, HasNoted, IsSent, Served}
 use Rattle.dns_network.specs.Notes.{AreNoted, notes_of, notes_of_opened}
 use Rattle.dns_network.specs.NotesOfTurns.{AreNotesOfEach, AreNotesOfMoment, AreNotesOfReply, AreNotesOfTurn, AreNotesOfTurns}
 use Rattle.dns_network.specs.Steps.{AreSteps}
-use Rattle.dns_network.specs.Turn.{AreTurns, ClosedFor, EventComes, HasAsked, IsCauseNoted, IsMoment, IsRound, AreDone, IsTurn}
+use Rattle.dns_network.specs.Turn.{ClosedFor, EventComes, HasAsked, IsCauseNoted, IsMoment}
+use Rattle.dns_network.specs.Turns.{AreDone, AreTurns, IsRound, IsTurn}
 use Rattle.dns_network.specs.Turn.{TurnMoment, Asks, Moves, Connects, Refuses, Happens, Closes}
 use Rattle.dns_network.proofs.Steps.{steps_on}
 
@@ -93,15 +94,15 @@ module _ {I D S N L : Type 0} {i : index.Ghosts I} {d : store.Ghosts D} (s : str
       )
   moment_noted now (Closes number cause) old new h = closed_noted now number cause old new h
 
-  done_noted : (now : ℕ) (moments : List TurnMoment) (old new : Served I D S N L i d) → AreDone s n l now moments old new → Took l (AreNotesOfEach AreNotesOfMoment moments) old.notes new.notes
-  done_noted now moments old new is =
+  done_noted : (now : ℕ) (rested : Option ℕ) (moments : List TurnMoment) (old new : Served I D S N L i d) → AreDone s n l now rested moments old new → Took l (AreNotesOfEach AreNotesOfMoment moments) old.notes new.notes
+  done_noted now rested moments old new is =
       let step = λ (x : Served I D S N L i d) (one : TurnMoment) (y : Served I D S N L i d). IsMoment s n l now one x y in
       subst (λ (all : List TurnMoment). Took l (AreNotesOfEach AreNotesOfMoment all) old.notes new.notes) (sym is.are)
       (steps_noted l log_of step AreNotesOfMoment (λ x one y h. moment_noted now one x y h) (is.first ++ is.last) old new (steps_on step is.first is.last old is.between new is.done is.flushed))
 
-  turn_noted : (now : ℕ) (moments : List TurnMoment) (old new : Served I D S N L i d) → IsTurn s n l now moments old new → Took l (AreNotesOfTurn moments) old.notes new.notes
-  turn_noted now moments old new is =
-      let within = done_noted now moments is.begun is.ended is.done in (
+  turn_noted : (now : ℕ) (rested : Option ℕ) (moments : List TurnMoment) (old new : Served I D S N L i d) → IsTurn s n l now rested moments old new → Took l (AreNotesOfTurn moments) old.notes new.notes
+  turn_noted now rested moments old new is =
+      let within = done_noted now rested moments is.begun is.ended is.done in (
         note.Begins now ∷ within.0 ++ note.Ends ∷ [],
         (now, within.0, within.1, refl),
         (
@@ -120,7 +121,7 @@ module _ {I D S N L : Type 0} {i : index.Ghosts I} {d : store.Ghosts D} (s : str
   round_noted moments old new is =
       let told = AreNotesOfTurn moments in
       subst (λ (x : L). Took l told x new.notes) (rest_noted old is.begun is.before)
-      (subst (λ (x : L). Took l told is.begun.notes x) (sym (rest_noted is.ended new is.after)) (turn_noted is.now moments is.begun is.ended is.turn))
+      (subst (λ (x : L). Took l told is.begun.notes x) (sym (rest_noted is.ended new is.after)) (turn_noted is.now is.rested moments is.begun is.ended is.turn))
 
   pub turns_noted : (turns : List (List TurnMoment)) (old new : Served I D S N L i d) → AreTurns s n l turns old new → Took l (AreNotesOfTurns turns) old.notes new.notes
   turns_noted = steps_noted l log_of (λ x moments y. IsRound s n l moments x y) AreNotesOfTurn (λ x moments y h. round_noted moments x y h)

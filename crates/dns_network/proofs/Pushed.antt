@@ -1,5 +1,5 @@
 -- What is done with what is at a position.
-use Rattle.std.proofs.Common.{◌≡◌, inl, inr, ℕ, zero, suc, ◌<◌, List, [], ◌∷◌, ◌++◌, length, Option, Some, None, Result, Ok, Err, refl, sym, ap, ◌∙◌, subst, slice_set, get_or}
+use Rattle.std.proofs.Common.{◌≡◌, inl, inr, ℕ, zero, suc, ◌<◌, ◌≤◌, false, arith, List, [], ◌∷◌, ◌++◌, length, Option, Some, None, Result, Ok, Err, refl, sym, ap, ◌∙◌, subst, slice_set, get_or}
 use Rattle.std.specs.Prelude.{slice_get, OnOk, OnErr, IfOk, IfNone, OnSome, MatchOption}
 use Rattle.std.specs.Option.{option_map}
 use Rattle.std.proofs.lemmas.List.{set-get_or}
@@ -10,7 +10,7 @@ use Rattle.dns_network.specs.declared.stream.Moved.{Moved}
 use Rattle.dns_network.specs.declared.stream.Moved.TheVariants.{Later}
 use Rattle.dns_network.specs.Framed.{pending_length}
 use Rattle.dns_network.specs.Connection.{IsQueued, MovesOn, held_of, rest_of, unwritten_of, stream_of, unhandled, used_of}
-use Rattle.dns_network.specs.Connections.{IsPushedTo, IsReplyPushed, HasBecome, HasMovedAt, HandsOver}
+use Rattle.dns_network.specs.Connections.{IsPushedTo, IsReplyPushed, HasBecome, HasMovedAt, HandsOver, is_open, is_open_at}
 use Rattle.dns_network.proofs.Framed.{joined, apart}
 
 pub on_ok : {T E P Q : Type 0} (r : Result T E) → (P → Q) → OnOk r P → OnOk r Q
@@ -45,9 +45,16 @@ set_there [] i x y h = absurd (cc h)
 set_there (z ∷ xs) zero x y h = refl
 set_there (z ∷ xs) (suc i) x y h = set_there xs i x y h
 
+-- no connection is past the last place
+pub past_closed : {S : Type 0} (number : ℕ) (places : List (Option (Connection S))) → length places ≤ number → is_open number places ≡ false
+past_closed number [] past = refl
+past_closed zero (x ∷ xs) past = absurd (omega (arith, past))
+past_closed (suc number) (x ∷ xs) past = past_closed number xs (omega (arith, past))
+
 -- nothing was done
-pub nothing_moved : {S : Type 0} (s : Ghosts S) (now number : ℕ) (old new : List (Option (Connection S))) → new ≡ old → HasMovedAt s now number Later old new
-nothing_moved s now number old new same = inl ((λ e. cc), same)
+pub nothing_moved : {S : Type 0} (s : Ghosts S) (now number : ℕ) (old new : List (Option (Connection S))) → is_open number old ≡ false → new ≡ old
+    → HasMovedAt s now number Later old new
+nothing_moved s now number old new closed same = inl (closed, (λ e. cc), same)
 
 module _ {S : Type 0} (number : ℕ) (old : List (Option (Connection S))) (size : ℕ) (here : Option (Connection S))
     (long : size ≡ length old) (within : number < size) (read : here ≡ get_or old number here) where
@@ -63,6 +70,9 @@ module _ {S : Type 0} (number : ℕ) (old : List (Option (Connection S))) (size 
   pushed_none reply is =
       let P : Option (Option (Connection S)) → Type 0 = λ o. IsPushedTo number reply o old (slice_set old number here) in
       subst P (sym (at ∙ ap Some is)) (ap (slice_set old number) read ∙ set-get_or old number here)
+
+  pub closed_there : here ≡ None → is_open number old ≡ false
+  closed_there is = ap (λ (place : Option (Option (Connection S))). is_open_at place) (at ∙ ap Some is)
 
   pub nothing_there : slice_set old number here ≡ old
   nothing_there = ap (slice_set old number) read ∙ set-get_or old number here

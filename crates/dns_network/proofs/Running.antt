@@ -1,5 +1,5 @@
 -- What turns are of the machine.
-use Rattle.std.proofs.Common.{◌≡◌, ◌⊎◌, inl, inr, ℕ, Bool, true, false, List, [], ◌∷◌, ◌++◌, refl, ap, sym, subst, ◌∙◌}
+use Rattle.std.proofs.Common.{◌≡◌, ◌⊎◌, inl, inr, ℕ, Bool, true, false, Option, List, [], ◌∷◌, ◌++◌, refl, ap, sym, subst, ◌∙◌}
 use Rattle.std.specs.List.{flat_map}
 use Rattle.std.proofs.lemmas.Grind.{flat_map-append}
 use Rattle.dns_network.specs.declared.stream.Stream as stream
@@ -22,7 +22,8 @@ use Rattle.dns_network.specs.declared.network.Note.TheVariants as note
 use Rattle.dns_network.specs.declared.network.Notes as notes
 use Rattle.dns_network.specs.Closing.{Cause, HasEnded, Silent, Stalled, NoMemory, NoPlace}
 use Rattle.dns_network.specs.Delivery.{Served, Going, AreGoing, HasEffects, HasNoted, IsSent, TakesEvent}
-use Rattle.dns_network.specs.Turn.{TurnMoment, Asks, Moves, Connects, Refuses, Happens, Closes, AreMoments, AreTurns, HasAsked, EventComes, IsCauseNoted, IsMoment, AreDone, IsTurn}
+use Rattle.dns_network.specs.Turn.{TurnMoment, Asks, Moves, Connects, Refuses, Happens, Closes, AreMoments, HasAsked, EventComes, IsCauseNoted, IsMoment}
+use Rattle.dns_network.specs.Turns.{AreDone, AreTurns, IsTurn}
 use Rattle.dns_network.specs.Left.{LeadsThrough, RestLaw}
 use Rattle.dns_network.specs.Runs.{IsRunOf, IsStepOf, Told, closed_for, closing, told_by, told_in, told_of}
 use Rattle.dns_network.proofs.Left.{leads_nowhere, leads_on, led_by}
@@ -210,20 +211,20 @@ module _ {I D S N L : Type 0} {i : index.Ghosts I} {d : store.Ghosts D} (s : str
   paused old new m (inl same) kept = stays n l old new m (ap (λ (x : Served I D S N L i d). x.primary) same) kept
   paused old new m (inr asked) kept = stays n l old new m (asked_stays n l old new asked) kept
 
-  done_told : (now : ℕ) (moments : List TurnMoment) (old new : Served I D S N L i d) (m : Machine) → AreDone s n l now moments old new → IsKept old.primary m
+  done_told : (now : ℕ) (rested : Option ℕ) (moments : List TurnMoment) (old new : Served I D S N L i d) (m : Machine) → AreDone s n l now rested moments old new → IsKept old.primary m
       → RunsTo (flat_map told_in moments) old.primary new.primary m
-  done_told now moments old new m is kept =
+  done_told now rested moments old new m is kept =
       subst (λ (l : List Told). RunsTo l old.primary new.primary m)
       (told_append is.first is.last ∙ ap (flat_map told_in) (sym is.are))
       (told_on (flat_map told_in is.first) (flat_map told_in is.last) old.primary is.between.primary new.primary m
       (moments_told now is.first old is.between m is.done kept) (λ e kept'. moments_told now is.last is.between new e is.flushed kept'))
 
   -- what is noted changes nothing of it
-  turn_told : (now : ℕ) (moments : List TurnMoment) (old new : Served I D S N L i d) (m : Machine) → IsTurn s n l now moments old new → IsKept old.primary m
+  turn_told : (now : ℕ) (rested : Option ℕ) (moments : List TurnMoment) (old new : Served I D S N L i d) (m : Machine) → IsTurn s n l now rested moments old new → IsKept old.primary m
       → RunsTo (flat_map told_in moments) old.primary new.primary m
-  turn_told now moments old new m is kept =
+  turn_told now rested moments old new m is kept =
       let begun = noted_stays n l (note.Begins now) old is.begun is.begins in
-      let run = done_told now moments is.begun is.ended m is.done (stays n l old is.begun m begun kept) in
+      let run = done_told now rested moments is.begun is.ended m is.done (stays n l old is.begun m begun kept) in
       told_still (flat_map told_in moments) old.primary is.ended.primary new.primary m (noted_stays n l note.Ends is.ended new is.ends)
       (told_from (flat_map told_in moments) old.primary is.begun.primary is.ended.primary m begun run)
 
@@ -239,7 +240,7 @@ module _ {I D S N L : Type 0} {i : index.Ghosts I} {d : store.Ghosts D} (s : str
       told_on (flat_map told_in one) (told_by rest) old.primary between.primary new.primary m
       (told_still (flat_map told_in one) old.primary here.ended.primary between.primary m (pause_stays here.ended between here.after)
       (told_from (flat_map told_in one) old.primary here.begun.primary here.ended.primary m (pause_stays old here.begun here.before)
-      (turn_told here.now one here.begun here.ended m here.turn (paused old here.begun m here.before kept))))
+      (turn_told here.now here.rested one here.begun here.ended m here.turn (paused old here.begun m here.before kept))))
       (λ e kept'. turns_to rest between new e is kept')
 
   pub turns_run : RestLaw d → (turns : List (List TurnMoment)) (old new : Served I D S N L i d) (m : Machine) → AreTurns s n l turns old new → IsKept old.primary m

@@ -201,7 +201,7 @@ module _ {S : Type 0} (s : stream.Ghosts S) where
   pub written_now : (now number : ℕ) (moved : Moved) (old new : List (Option (Connection S))) → HasMovedAt s now number moved old new
       → (IsOpenWith (IsStalled now) (slice_get new number) → ⊥) → IsOpenWith (IsStalled now) (slice_get old number)
       → IsGoneOr (λ c. used_of c ≡ now) (slice_get new number)
-  written_now now number moved old new (inl (lasts, same)) not stalled =
+  written_now now number moved old new (inl (closed, lasts, same)) not stalled =
       absurd (not (subst (λ (cs : List (Option (Connection S))). IsOpenWith (IsStalled now) (slice_get cs number)) (sym same) stalled))
   written_now now number moved old new (inr (c, d, there, on, set)) not stalled =
       let at : slice_get new number ≡ Some (Some d) =
@@ -234,7 +234,7 @@ module _ {S : Type 0} (s : stream.Ghosts S) where
   none_handed : (now number : ℕ) (moved : Moved) (old mid : List (Option (Connection S))) → HasMovedAt s now number moved old mid
       → ((c : Connection S) → slice_get mid number ≡ Some (Some c) → held_of c ≡ [])
       → Is (IsUnusedOrInUse now) number old → Is (λ c. IsSilent now c ⊎ IsInUse now c) number mid
-  none_handed now number moved old mid (inl (lasts, same)) none is =
+  none_handed now number moved old mid (inl (closed, lasts, same)) none is =
       still_silent now (slice_get mid number) none (subst (Is (IsUnusedOrInUse now) number) (sym same) is)
   none_handed now number moved old mid (inr (c, d, there, on, set)) none is =
       let at : slice_get mid number ≡ Some (Some d) =

@@ -13,6 +13,15 @@ module _ {S : Type 0} where
   abbrev pub places_of : Connections S → List (Option (Connection S))
   places_of connections = connections.places.items
 
+  -- the connection that is there
+  abbrev pub connection_in : Option (Option (Connection S)) → Option (Connection S)
+  connection_in None = None
+  connection_in (Some place) = place
+
+  -- the one with that number
+  abbrev pub connection_at : ℕ → List (Option (Connection S)) → Option (Connection S)
+  connection_at number places = connection_in (slice_get places number)
+
   -- A connection is there, and this is known of it.
   abbrev pub IsOpenWith : (Connection S → Type 0) → Option (Option (Connection S)) → Type 0
   IsOpenWith known None = ⊥
@@ -63,12 +72,13 @@ module _ {S : Type 0} where
   has_left_at (Some None) = false
   has_left_at (Some (Some c)) = not (length (unwritten_of c) == 0)
 
-  -- Nothing has changed, and no stream ended; or octets may have moved on the connection with that number,
-  -- and on no other one.
+  -- No connection has that number, nothing has changed, and no stream ended; or octets may have moved on the
+  -- connection with that number, and on no other one.
   abbrev pub HasMovedAt : Ghosts S → ℕ → ℕ → Moved → List (Option (Connection S))
       → List (Option (Connection S)) → Type 0
   HasMovedAt s now number moved old new =
-      ((moved ≢ Ended) × (new ≡ old)) ⊎ HasBecome (MovesOn s now moved) number old new
+      ((is_open number old ≡ false) × (moved ≢ Ended) × (new ≡ old))
+      ⊎ HasBecome (MovesOn s now moved) number old new
 
   -- The connection with that number handed over its first message in the second `now`, and no other one has
   -- changed; or it had none.

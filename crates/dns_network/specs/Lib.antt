@@ -13,3 +13,4 @@ pub mod NotesOfTurns
 pub mod Runs
 pub mod Steps
 pub mod Turn
+pub mod Turns

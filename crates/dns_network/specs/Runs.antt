@@ -19,7 +19,8 @@ use Rattle.dns_network.specs.declared.network.Network.{Ghosts}
 use Rattle.dns_network.specs.declared.network.Notes as notes
 use Rattle.dns_network.specs.Delivery.{Served, out_of}
 use Rattle.dns_network.specs.Left.{LeadsThrough}
-use Rattle.dns_network.specs.Turn.{TurnMoment, Asks, Moves, Connects, Refuses, Happens, Closes, AreTurns}
+use Rattle.dns_network.specs.Turn.{TurnMoment, Asks, Moves, Connects, Refuses, Happens, Closes}
+use Rattle.dns_network.specs.Turns.{AreTurns}
 
 -- An event that a primary is told, and what it reports of it: the replies that go out, in order, the number
 -- of a connection that is taken up, and what is noted.

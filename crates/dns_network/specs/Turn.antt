@@ -1,5 +1,5 @@
 -- What is done in a turn.
-use Rattle.std.specs.Prelude.{◌≡◌, ◌⊎◌, ◌≤◌, ◌<◌, ℕ, List, [], ◌∷◌, ◌++◌, length}
+use Rattle.std.specs.Prelude.{◌≡◌, ◌⊎◌, ◌≤◌, ◌<◌, ℕ, List, [], ◌++◌, length}
 use Rattle.std.specs.Prelude.{Option, Some, None, slice_get, slice_set}
 use Rattle.dns_network.specs.declared.connection.Connection.{Connection}
 use Rattle.dns_network.specs.declared.stream.Stream as stream
@@ -36,12 +36,6 @@ pub data TurnMoment : Type 0 where
 -- for those whose address some zone lists.
 abbrev pub places_for_all : ℕ
 places_for_all = 48
-
--- A flush, before and after which the network looks.
-abbrev pub IsFlush : List TurnMoment → Type 0
-IsFlush moments =
-    (effects : Effects) × (goings : List Going)
-    × (moments ≡ Asks ∷ Happens Flush effects goings ∷ Asks ∷ [])
 
 module _ {S : Type 0} where
   -- A connection on which nothing came and to which nothing goes yet is put, in the second `now`, in the
@@ -167,44 +161,3 @@ module _ {I D S N L : Type 0} {i : index.Ghosts I} {d : store.Ghosts D} where
   abbrev pub AreMoments : stream.Ghosts S → Ghosts N S → notes.Ghosts L → ℕ → List TurnMoment
       → Served I D S N L i d → Served I D S N L i d → Type 0
   AreMoments s n l now = AreSteps (λ old one new. IsMoment s n l now one old new)
-
-  -- Nothing else is done from here to there, in this second.
-  abbrev pub MomentsLead : stream.Ghosts S → Ghosts N S → notes.Ghosts L → ℕ → Served I D S N L i d
-      → Served I D S N L i d → Type 0
-  MomentsLead s n l now old new = (moments : List TurnMoment) × AreMoments s n l now moments old new
-
-  -- These are done in a turn, in the second `now`: what is done first, and then, where a reply waits, a
-  -- flush.
-  pub record AreDone (s : stream.Ghosts S) (n : Ghosts N S) (l : notes.Ghosts L) (now : ℕ)
-      (moments : List TurnMoment) (old new : Served I D S N L i d) : Type 0 where
-    pub first : List TurnMoment
-    pub last : List TurnMoment
-    pub are : moments ≡ first ++ last
-    pub between : Served I D S N L i d
-    pub done : AreMoments s n l now first old between
-    pub flushed : AreMoments s n l now last between new
-    pub flush : ((last ≡ []) × NoneWaits between.primary) ⊎ IsFlush last
-
-  -- A turn: it is noted that it begins, in the second `now`; these are done; and it is noted that it ends.
-  pub record IsTurn (s : stream.Ghosts S) (n : Ghosts N S) (l : notes.Ghosts L) (now : ℕ)
-      (moments : List TurnMoment) (old new : Served I D S N L i d) : Type 0 where
-    pub begun : Served I D S N L i d
-    pub ended : Served I D S N L i d
-    pub begins : HasNoted l (note.Begins now) old begun
-    pub done : AreDone s n l now moments begun ended
-    pub ends : HasNoted l note.Ends ended new
-
-  -- A turn, and before and after it the network may be asked, or wait.
-  pub record IsRound (s : stream.Ghosts S) (n : Ghosts N S) (l : notes.Ghosts L) (moments : List TurnMoment)
-      (old new : Served I D S N L i d) : Type 0 where
-    pub now : ℕ
-    pub begun : Served I D S N L i d
-    pub ended : Served I D S N L i d
-    pub before : (begun ≡ old) ⊎ HasAsked n old begun
-    pub turn : IsTurn s n l now moments begun ended
-    pub after : (new ≡ ended) ⊎ HasAsked n ended new
-
-  -- Turns are made, one after the other; each is told by its moments.
-  abbrev pub AreTurns : stream.Ghosts S → Ghosts N S → notes.Ghosts L → List (List TurnMoment)
-      → Served I D S N L i d → Served I D S N L i d → Type 0
-  AreTurns s n l = AreSteps (λ old moments new. IsRound s n l moments old new)

@@ -67,7 +67,9 @@ impl<S: Stream + Drop> Connection<S> {
     }
 
     /// The stream.
-    pub fn stream_mut(&mut self) -> &mut S {
+    pub fn stream_mut(&mut self) -> &mut S
+        ensures value { result.now ≡ stream_of self.old }
+    {
         &mut self.stream
     }
 

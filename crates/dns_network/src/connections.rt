@@ -1,10 +1,10 @@
 //! All connections, by their numbers.
 ghost use Rattle.std.specs.Prelude.{◌≡◌, ◌≤◌, ◌<◌, ℕ, length, replicate, slice_get, slice_set, true};
 ghost use Rattle.std.specs.Prelude.{◌↔◌, None, Some, IsTrue, IfErr, IfOk, OnOk, OnErr};
-ghost use Rattle.std.specs.Option.{option_map};
+ghost use Rattle.std.specs.Option.{option_copied_mut, option_map};
 ghost use Rattle.dns_network.specs.Connection.{HasLost, IsSilent, IsStalled};
 ghost use Rattle.dns_network.specs.Connections.{HandsOver, HasBecome, HasMovedAt, IsReplyPushed, IsOpenWith};
-ghost use Rattle.dns_network.specs.Connections.{has_left_at, is_open, open_connections, places_of};
+ghost use Rattle.dns_network.specs.Connections.{connection_at, has_left_at, is_open, open_connections, places_of};
 
 use crate::{Connection, Moved, Octets, Stream};
 use dns_memory::Heap;
@@ -50,7 +50,9 @@ impl<S: Stream + Drop> Connections<S> {
     }
 
     /// The connection with that number.
-    pub fn get_mut(&mut self, number: usize) -> Option<&mut Connection<S>> {
+    pub fn get_mut(&mut self, number: usize) -> Option<&mut Connection<S>>
+        ensures value { option_copied_mut result ≡ connection_at number (places_of self.old) }
+    {
         self.places.get_mut(number)?.as_mut()
     }
 

@@ -1,19 +1,21 @@
 //! Turns: what is done with the network, one turn after the other.
 ghost use Rattle.std.specs.Prelude.{◌≡◌, ◌⊎◌, ◌≤◌, ◌<◌, ℕ, Bool, List, [], map, replicate, false};
-ghost use Rattle.std.specs.Prelude.{Some, None, slice_get, slice_set, IfOk, IsTrue};
+ghost use Rattle.std.specs.Prelude.{Some, None, is_some, slice_get, slice_set, IfOk, IsTrue};
+ghost use Rattle.std.specs.Option.{option_copied_mut};
 ghost use Rattle.dns_primary.specs.declared.event.Effects.{Effects as StatedEffects};
 ghost use Rattle.dns_primary.specs.Keeps.{IsKept, header_out, reply_out};
 ghost use Rattle.dns_primary.specs.Machine.{IsListed, Machine};
-ghost use Rattle.dns_primary.specs.Step.{Closed};
+ghost use Rattle.dns_primary.specs.Step.{Closed, Pump};
 ghost use Rattle.dns_network.specs.declared.network.Note.TheVariants as note;
 ghost use Rattle.dns_network.specs.Closing.{StalledAreGone, UnusedAreGone};
 ghost use Rattle.dns_network.specs.Connection.{IsInUse, IsStalled, IsUnused, IsUnusedOrInUse, used_of};
-ghost use Rattle.dns_network.specs.Connections.{IsGoneOr, IsOpenWith, HasPumped, open_connections};
+ghost use Rattle.dns_network.specs.Connections.{IsGoneOr, IsOpenWith, HasPumped, connection_at, open_connections};
 ghost use Rattle.dns_network.specs.Notes.{AreNoted, notes_of};
 ghost use Rattle.dns_network.specs.Delivery.{AreSent, Going, HasEffects, IsSent, TakesEvent, connections_of};
 ghost use Rattle.dns_network.specs.Delivery.{RestsAsBefore, rested_of, served};
-ghost use Rattle.dns_network.specs.Turn.{AreDone, IsTurn, IsWelcomed, MomentsLead, NoneWaits, TurnMoment};
-ghost use Rattle.dns_network.specs.Turn.{places_for_all};
+ghost use Rattle.dns_network.specs.Turn.{Happens, IsMoment, IsWelcomed, NoneWaits, TurnMoment, places_for_all};
+ghost use Rattle.dns_network.specs.Turns.{AreDone, AreIdle, AreServed, HasItsPart, IsAccepting, IsReading};
+ghost use Rattle.dns_network.specs.Turns.{IsReceiving, IsTurn};
 
 use crate::{Connection, Connections, Moved, Network, Note, Notes, Stream};
 use dns_memory::Heap;
@@ -71,7 +73,9 @@ impl<S: Stream + Drop> Edge<S> {
     }
 
     /// The connection with that number.
-    pub fn connection_mut(&mut self, number: usize) -> Option<&mut Connection<S>> {
+    pub fn connection_mut(&mut self, number: usize) -> Option<&mut Connection<S>>
+        ensures value { option_copied_mut result ≡ connection_at number (connections_of self.old) }
+    {
         self.connections.get_mut(number)
     }
 
@@ -243,7 +247,8 @@ impl<S: Stream + Drop> Edge<S> {
         notes: &mut L,
         now: u64,
     ) -> bool
-        ensures moments { MomentsLead S.Stream N.Network L.Notes now
+        ensures accepts { (moments : List TurnMoment)
+            × IsAccepting S.Stream N.Network L.Notes now result moments
             (served primary.old self.old network.old notes.old)
             (served primary.new self.new network.new notes.new) }
         ensures rested { RestsAsBefore self.old self.new }
@@ -267,7 +272,8 @@ impl<S: Stream + Drop> Edge<S> {
         primary: &mut Primary<I, D>,
         notes: &mut L,
     ) -> bool
-        ensures moments { (now : ℕ) → MomentsLead S.Stream N.Network L.Notes now
+        ensures receives { (now : ℕ) → (moments : List TurnMoment)
+            × IsReceiving S.Stream N.Network L.Notes now result moments
             (served primary.old self.old network.old notes.old)
             (served primary.new self.new network.new notes.new) }
         ensures rested { RestsAsBefore self.old self.new }
@@ -290,7 +296,9 @@ impl<S: Stream + Drop> Edge<S> {
         notes: &mut L,
         number: usize,
     ) -> bool
-        ensures moments { (now : ℕ) → MomentsLead S.Stream N.Network L.Notes now
+        ensures pumps { (now : ℕ) → (effects : StatedEffects) × (goings : List Going)
+            × (result ≡ is_some effects.message)
+            × IsMoment S.Stream N.Network L.Notes now (Happens (Pump number) effects goings)
             (served primary.old self.old network.old notes.old)
             (served primary.new self.new network.new notes.new) }
         ensures pumped { (m : Machine) → IsKept primary.old m
@@ -313,9 +321,10 @@ impl<S: Stream + Drop> Edge<S> {
         number: usize,
         now: u64,
     ) -> bool
-        ensures moments { MomentsLead S.Stream N.Network L.Notes now
+        ensures reads { (moments : List TurnMoment)
+            × IsReading S.Stream N.Network L.Notes now number moments
             (served primary.old self.old network.old notes.old)
-            (served primary.new self.new network.new notes.new) }
+            (served primary.new self.new network.new notes.new) × (result ≡ false → AreIdle moments) }
         ensures silent { IsGoneOr (IsUnusedOrInUse now) (slice_get (connections_of self.old) number)
             → IsGoneOr (IsInUse now) (slice_get (connections_of self.new) number) }
     {
@@ -353,9 +362,10 @@ impl<S: Stream + Drop> Edge<S> {
         number: usize,
         now: u64,
     ) -> bool
-        ensures moments { MomentsLead S.Stream N.Network L.Notes now
+        ensures part { (moments : List TurnMoment)
+            × HasItsPart S.Stream N.Network L.Notes now number moments
             (served primary.old self.old network.old notes.old)
-            (served primary.new self.new network.new notes.new) }
+            (served primary.new self.new network.new notes.new) × (result ≡ false → AreIdle moments) }
         // A connection that was stalled before is gone then, or it was used in this second.
         ensures stalled { IsOpenWith (IsStalled now) (slice_get (connections_of self.old) number)
             → IsGoneOr (λ c. used_of c ≡ now) (slice_get (connections_of self.new) number) }
@@ -396,9 +406,10 @@ impl<S: Stream + Drop> Edge<S> {
         notes: &mut L,
         now: u64,
     ) -> bool
-        ensures moments { MomentsLead S.Stream N.Network L.Notes now
+        ensures serves { (moments : List TurnMoment)
+            × AreServed S.Stream N.Network L.Notes now (rested_of self.old) moments
             (served primary.old self.old network.old notes.old)
-            (served primary.new self.new network.new notes.new) }
+            (served primary.new self.new network.new notes.new) × (result ≡ false → AreIdle moments) }
         // Unless none had something to do in this second, each that was unused or stalled is gone, or used.
         ensures unused { (rested_of self.old ≡ Some now → ⊥) → (m : Machine) → IsKept primary.old m
             → UnusedAreGone now (connections_of self.old) (connections_of self.new) }
@@ -429,9 +440,10 @@ impl<S: Stream + Drop> Edge<S> {
         notes: &mut L,
         now: u64,
     ) -> bool
-        ensures done { (moments : List TurnMoment) × AreDone S.Stream N.Network L.Notes now moments
+        ensures done { (moments : List TurnMoment)
+            × AreDone S.Stream N.Network L.Notes now (rested_of self.old) moments
             (served primary.old self.old network.old notes.old)
-            (served primary.new self.new network.new notes.new) }
+            (served primary.new self.new network.new notes.new) × (result ≡ false → AreIdle moments) }
         ensures idle { result ≡ false → NoneWaits primary.new }
         ensures unused { (rested_of self.old ≡ Some now → ⊥) → (m : Machine) → IsKept primary.old m
             → UnusedAreGone now (connections_of self.old) (connections_of self.new) }
@@ -442,7 +454,7 @@ impl<S: Stream + Drop> Edge<S> {
         let accepted = self.accept(alloc, network, primary, notes, now);
         let received = self.receive(alloc, network, primary, notes);
         let visited = self.serve_connections(alloc, network, primary, notes, now);
-        let mut is_done = accepted || received || visited;
+        let mut is_done = accepted | received | visited;
         if primary.has_waiting() {
             network.look();
             let effects = primary.step(alloc, Event::Flush);
@@ -461,7 +473,8 @@ impl<S: Stream + Drop> Edge<S> {
     /// stalled for 30 seconds is closed.
     ///
     /// A read or a write that would wait does nothing, and one that fails closes its connection. So does
-    /// refused memory.
+    /// refused memory. If a turn before, in the same second, found that no connection had something to do, and
+    /// the network is still, the connections are passed over.
     pub fn turn<I: ZoneIndex, D: ZoneStore, N: Network<S>, L: Notes>(
         &mut self,
         alloc: Heap,
@@ -470,9 +483,11 @@ impl<S: Stream + Drop> Edge<S> {
         notes: &mut L,
         now: u64,
     ) -> bool
-        ensures turn { (moments : List TurnMoment) × IsTurn S.Stream N.Network L.Notes now moments
+        // All that is done, part by part; and it answers that nothing was done only if nothing was.
+        ensures turn { (moments : List TurnMoment)
+            × IsTurn S.Stream N.Network L.Notes now (rested_of self.old) moments
             (served primary.old self.old network.old notes.old)
-            (served primary.new self.new network.new notes.new) }
+            (served primary.new self.new network.new notes.new) × (result ≡ false → AreIdle moments) }
         ensures idle { result ≡ false → NoneWaits primary.new }
         // Unless a turn before, in this second, found that no connection had something to do: each that was
         // silent or stalled is gone, or it was used in this second, or a silent one got something to write.

@@ -89,6 +89,8 @@ impl Network<MemoryStream> for MemoryNetwork {
 
     ghost looks = { SendsNothing };
 
+    ghost keeps_still = { λ _. ⊥ };
+
     fn accept(&mut self) -> Option<(MemoryStream, Peer)> {
         if self.streams.is_empty() {
             return None;

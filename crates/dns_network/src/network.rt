@@ -1,5 +1,5 @@
 //! The network as turns need it, and what they report.
-ghost use Rattle.std.specs.Prelude.{◌≤◌, ℕ, List, Option, length, take, IfSome};
+ghost use Rattle.std.specs.Prelude.{◌≤◌, ℕ, List, Option, length, take, IfSome, IsTrue};
 ghost use Rattle.std.specs.Option.{option_map};
 ghost use Rattle.dns_primary.specs.declared.event.Peer.{Peer as StatedPeer};
 ghost use Rattle.dns_network.specs.declared.network.Note.{Note as StatedNote};
@@ -20,6 +20,9 @@ pub trait Network<S> {
 
     /// and where it looked what came meanwhile, or waited for something.
     ghost looks: { Self → Self → Type 0 };
+
+    /// Until it looks or waits again, no call of a stream moves an octet.
+    ghost keeps_still: { Self → Type 0 };
 
     /// The next connection that a peer made: its stream, and the peer.
     fn accept(&mut self) -> Option<(S, Peer)>
@@ -43,7 +46,8 @@ pub trait Network<S> {
     /// Whether no stream has something to read, or room for what is to be written, as far as it has looked:
     /// until it looks or waits again, no call of a stream moves an octet. A network that doesn't know that
     /// answers false.
-    fn is_still(&self) -> bool;
+    fn is_still(&self) -> bool
+        ensures { IsTrue result → keeps_still self.now };
 
     /// Waits until something may have come, or about a second has passed. It is called where nothing was to
     /// be done.

@@ -10,7 +10,8 @@ use Rattle.dns_primary.specs.Keeps.{IsKept}
 use Rattle.dns_network.specs.declared.network.Network.{Ghosts}
 use Rattle.dns_network.specs.declared.network.Notes as notes
 use Rattle.dns_network.specs.Delivery.{Served}
-use Rattle.dns_network.specs.Turn.{TurnMoment, AreTurns, HasAsked, IsRound, IsTurn}
+use Rattle.dns_network.specs.Turn.{TurnMoment, HasAsked}
+use Rattle.dns_network.specs.Turns.{AreTurns, IsRound, IsTurn}
 use Rattle.dns_network.specs.NotesOfTurns.{AreNotesOfTurns}
 use Rattle.dns_network.proofs.Noted.{Took, turns_noted}
 use Rattle.dns_network.proofs.Running.{turns_run}
@@ -31,13 +32,13 @@ module _ {I D S N L : Type 0} {i : index.Ghosts I} {d : store.Ghosts D} (s : str
   paused primary connections noted old new (inl same) = inl (λ k. record { primary = primary; connections = connections; network = same k; notes = noted })
   paused primary connections noted old new (inr looks) = inr (record { rest = refl; nothing = inr (inr looks) })
 
-  pub turned : (count now : ℕ) (a old start end new : Served I D S N L i d) → Made count a old → (start ≡ old) ⊎ HasAsked n old start
-      → (moments : List TurnMoment) × IsTurn s n l now moments start end → (new ≡ end) ⊎ HasAsked n end new → Made (count + 1) a new
-  turned count now a old start end new (turns, many, made) before (moments, turn) after = (
+  pub turned : (count now : ℕ) (rested : Option ℕ) (moments : List TurnMoment) (a old start end new : Served I D S N L i d) → Made count a old
+      → (start ≡ old) ⊎ HasAsked n old start → IsTurn s n l now rested moments start end → (new ≡ end) ⊎ HasAsked n end new → Made (count + 1) a new
+  turned count now rested moments a old start end new (turns, many, made) before turn after = (
     turns ++ moments ∷ [],
     omega (arith, many, length_push turns moments),
     step_more (λ x one y. IsRound s n l one x y) turns moments a old new made
-        (record { now = now; begun = start; ended = end; before = before; turn = turn; after = after }),
+        (record { now = now; rested = rested; begun = start; ended = end; before = before; turn = turn; after = after }),
   )
 
   -- What its notes say of turns, and that they are a run.

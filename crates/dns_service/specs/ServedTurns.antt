@@ -11,7 +11,8 @@ use Rattle.dns_primary.specs.Runs.{Moment, last_of}
 use Rattle.dns_network.specs.declared.network.Network.{Ghosts}
 use Rattle.dns_network.specs.declared.network.Notes as notes
 use Rattle.dns_network.specs.Delivery.{Served}
-use Rattle.dns_network.specs.Turn.{TurnMoment, AreTurns}
+use Rattle.dns_network.specs.Turn.{TurnMoment}
+use Rattle.dns_network.specs.Turns.{AreTurns}
 use Rattle.dns_network.specs.Left.{LeadsThrough}
 use Rattle.dns_network.specs.Runs.{IsRunOf, told_by}
 

@@ -221,6 +221,8 @@ impl Network<Socket> for Sockets {
 
     ghost looks = { λ _ _. Unit {0} };
 
+    ghost keeps_still = { λ _. Unit {0} };
+
     fn accept(&mut self) -> Option<(Socket, Peer)> {
         let (stream, peer) = self.next_connection()?;
         let socket = self.ready(stream)?;

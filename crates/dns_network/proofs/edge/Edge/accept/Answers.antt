@@ -1,45 +1,74 @@
-use Rattle.std.proofs.Common.{refl, inl, inr}
+use Rattle.std.proofs.Common.{◌≡◌, true, false, [], ◌∷◌, refl, inl, inr}
 use Rattle.dns_primary.specs.Keeps.{IsKept}
 use Rattle.dns_primary.specs.Machine.{Machine}
 use Rattle.dns_network.specs.Closing.{NoPlace}
 use Rattle.dns_network.specs.Delivery.{connections_of, served}
-use Rattle.dns_network.specs.Turn.{Asks, Connects, Refuses}
-use Rattle.dns_network.proofs.Leads.{by_one, and_on, closes, standing}
+use Rattle.dns_network.specs.Turn.{Asks, Closes, Connects, HasAsked, HasConnected, HasRefused, Refuses}
+use Rattle.dns_network.proofs.Leads.{closes, one_moment, standing, two_moments}
 use Rattle.dns_network.proofs.edge.Edge.accept.Goals as goal
 
-pub returns-in_default-clause-moments : goal.returns-in_default-clause-moments
-returns-in_default-clause-moments g c =
+pub returns-in_default-clause-accepts : goal.returns-in_default-clause-accepts
+returns-in_default-clause-accepts g c =
     let old = served c.args.primary.now c.args.self.now c.args.network.now c.args.notes.now in
     let new = served c.args.primary.now c.args.self.now c.accept.new.self c.args.notes.now in
-    by_one g.S.Stream g.N.Network g.L.Notes c.args.now Asks old new (record { rest = refl; nothing = inl c.in_default.ensures })
+    let asked : HasAsked g.N.Network old new = record { rest = refl; nothing = inl c.in_default.ensures } in (
+      Asks ∷ [],
+      record {
+        are = one_moment g.S.Stream g.N.Network g.L.Notes c.args.now Asks old new asked;
+        came = λ one. absurd (let clash : false ≡ true = one in cc);
+        none = λ none. (refl, c.in_default.ensures);
+      },
+    )
 
-pub returns-then-is_full_for-clause-moments : goal.returns-then-is_full_for-clause-moments
-returns-then-is_full_for-clause-moments g c =
+pub returns-then-is_full_for-clause-accepts : goal.returns-then-is_full_for-clause-accepts
+returns-then-is_full_for-clause-accepts g c =
     let old = served c.args.primary.now c.args.self.now c.args.network.now c.args.notes.now in
     let new = served c.args.primary.now c.args.self.now c.accept.new.self c.note.new.self in
-    by_one g.S.Stream g.N.Network g.L.Notes c.args.now (Refuses c.in-Some.peer) old new
-    (record {
+    let refused : HasRefused g.N.Network g.L.Notes c.in-Some.peer old new = record {
       stream = c.in-Some.stream;
       came = c.in-Some.ensures;
       full = c.is_full_for.ensures.full c.if-is_full_for.true;
       unlisted = λ m kept. c.is_full_for.ensures.unlisted c.if-is_full_for.true m kept;
       rest = refl;
       noted = c.note.ensures;
-    })
+    } in (
+      Refuses c.in-Some.peer ∷ [],
+      record {
+        are = one_moment g.S.Stream g.N.Network g.L.Notes c.args.now (Refuses c.in-Some.peer) old new refused;
+        came = λ one. inr (inr (c.in-Some.peer, refl));
+        none = λ none. absurd (let clash : true ≡ false = none in cc);
+      },
+    )
 
-pub returns-clause-moments : goal.returns-clause-moments
-returns-clause-moments g c =
+pub returns-clause-accepts : goal.returns-clause-accepts
+returns-clause-accepts g c =
     let allowed = λ (m : Machine) (kept : IsKept c.args.primary.now m). c.is_full_for.ensures.allowed c.if-is_full_for.false m kept in
     let old = served c.args.primary.now c.args.self.now c.args.network.now c.args.notes.now in
     let new = served c.open_connection.new.primary c.open_connection.new.self c.accept.new.self c.open_connection.new.notes in
     elim c.open_connection.ensures.welcomed [
-      | inl (effects, taken) ↦ by_one g.S.Stream g.N.Network g.L.Notes c.args.now (Connects c.in-Some.peer effects) old new
-          (record { stream = c.in-Some.stream; came = c.in-Some.ensures; allowed = allowed; taken = taken })
-      | inr (between, place, noted, number, effects, none, taken, lacks, told, gone, closed) ↦
-          (let mid = standing between c.accept.new.self noted place in
-          and_on g.S.Stream g.N.Network g.L.Notes c.args.now old mid new
-          (by_one g.S.Stream g.N.Network g.L.Notes c.args.now (Connects c.in-Some.peer effects) old mid
-          (record { stream = c.in-Some.stream; came = c.in-Some.ensures; allowed = allowed; taken = taken }))
-          (closes g.S.Stream g.N.Network g.L.Notes c.args.now number NoPlace between c.open_connection.new.primary c.accept.new.self noted noted c.open_connection.new.notes place (connections_of c.open_connection.new.self)
-          lacks refl (none, told) gone closed))
+      | inl (effects, taken) ↦ (
+          let connected : HasConnected g.N.Network g.L.Notes c.args.now c.in-Some.peer effects old new =
+          record { stream = c.in-Some.stream; came = c.in-Some.ensures; allowed = allowed; taken = taken } in (
+            Connects c.in-Some.peer effects ∷ [],
+            record {
+              are = one_moment g.S.Stream g.N.Network g.L.Notes c.args.now (Connects c.in-Some.peer effects) old new connected;
+              came = λ one. inl (c.in-Some.peer, effects, refl);
+              none = λ none. absurd (let clash : true ≡ false = none in cc);
+            },
+          )
+          )
+      | inr (between, place, noted, number, effects, none, taken, lacks, told, gone, closed) ↦ (
+          let mid = standing between c.accept.new.self noted place in
+          let connected : HasConnected g.N.Network g.L.Notes c.args.now c.in-Some.peer effects old mid =
+          record { stream = c.in-Some.stream; came = c.in-Some.ensures; allowed = allowed; taken = taken } in (
+            Connects c.in-Some.peer effects ∷ Closes number NoPlace ∷ [],
+            record {
+              are = two_moments g.S.Stream g.N.Network g.L.Notes c.args.now (Connects c.in-Some.peer effects) (Closes number NoPlace) old mid new connected
+                  (closes g.S.Stream g.N.Network g.L.Notes c.args.now number NoPlace between c.open_connection.new.primary c.accept.new.self noted noted c.open_connection.new.notes place (connections_of c.open_connection.new.self)
+                  lacks refl (none, told) gone closed);
+              came = λ one. inr (inl (c.in-Some.peer, effects, number, refl));
+              none = λ none. absurd (let clash : true ≡ false = none in cc);
+            },
+          )
+          )
     ]

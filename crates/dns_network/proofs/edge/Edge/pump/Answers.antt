@@ -1,16 +1,22 @@
 use Rattle.std.proofs.Common.{refl}
 use Rattle.dns_primary.specs.Step.{Pump}
 use Rattle.dns_network.specs.Delivery.{connections_of, served}
-use Rattle.dns_network.proofs.Leads.{happens}
+use Rattle.dns_network.proofs.Leads.{happened}
 use Rattle.dns_network.proofs.Visited.{is_pumped, next_queued}
 use Rattle.dns_network.proofs.edge.Edge.pump.Goals as goal
 
-pub returns-clause-moments : goal.returns-clause-moments
-returns-clause-moments g c = λ now.
+pub returns-clause-pumps : goal.returns-clause-pumps
+returns-clause-pumps g c = λ now.
     let old = served c.args.primary.now c.args.self.now c.args.network.now c.args.notes.now in
     let told = served c.step-effects.new.self c.args.self.now c.args.network.now c.args.notes.now in
     let new = served c.deliver.new.primary c.deliver.new.self c.deliver.new.network c.deliver.new.notes in
-    happens g.S.Stream g.N.Network g.L.Notes now (Pump c.args.number) c.step-effects.result old old told new refl (λ m kept. c.step-effects.ensures.step m kept) refl c.deliver.ensures.happened
+    let goings = c.deliver.ensures.happened.0 in (
+      c.step-effects.result,
+      goings,
+      c.is_some-is_sent.ensures,
+      happened g.S.Stream g.N.Network g.L.Notes now (Pump c.args.number) c.step-effects.result goings old old told new refl (λ m kept. c.step-effects.ensures.step m kept) refl
+          c.deliver.ensures.happened.1,
+    )
 
 pub returns-clause-pumped : goal.returns-clause-pumped
 returns-clause-pumped g c = λ m kept.

@@ -1,63 +1,96 @@
-use Rattle.std.proofs.Common.{◌≡◌, ◌∙◌, ℕ, true, false, List, Option, refl, sym, ap, subst}
+use Rattle.std.proofs.Common.{◌≡◌, ◌∙◌, inl, inr, ℕ, true, false, List, [], ◌∷◌, Option, refl, sym, ap, subst}
 use Rattle.dns_network.specs.declared.connection.Connection.{Connection}
 use Rattle.std.specs.Prelude.{slice_get}
 use Rattle.dns_network.specs.Closing.{HasEnded, NoMemory, Silent}
-use Rattle.dns_network.specs.Connection.{HasHandedOver, HasLost, IsInUse, IsSilent}
-use Rattle.dns_network.specs.Connections.{IsOpenWith, places_of}
+use Rattle.dns_network.specs.Connection.{HasHandedOver, HasLost, IsInUse, IsSilent, held_of}
+use Rattle.dns_network.specs.Connections.{IsGoneOr, IsOpenWith, places_of}
 use Rattle.dns_primary.specs.Step.{Arrives}
 use Rattle.dns_network.specs.Delivery.{connections_of, served}
-use Rattle.dns_network.specs.Turn.{MomentsLead}
-use Rattle.dns_network.proofs.Leads.{and_on, closed_still, closed_then, closes, ends, happens, loses, moves, standing}
+use Rattle.dns_network.specs.Turn.{Closes, Happens, Moves}
+use Rattle.dns_network.proofs.Leads.{closed_still, closed_then, closes, ends, happened, loses, moves, standing}
+use Rattle.dns_network.proofs.Parts.{moved_ended, moved_there, none_held, open_become, open_with}
 use Rattle.dns_network.proofs.Used.{handed_now, heard_none, in_use_stays, is_gone}
 use Rattle.dns_network.proofs.Visited.{effects_stay}
 use Rattle.dns_network.proofs.edge.Edge.read_piece.Goals as goal
 
-pub returns-in_default-clause-moments : goal.returns-in_default-clause-moments
-returns-in_default-clause-moments g c =
+pub returns-in_default-clause-reads : goal.returns-in_default-clause-reads
+returns-in_default-clause-reads g c =
     let now = c.args.now in
     let number = c.args.number in
     let here = connections_of c.args.self.now in
     let mid = places_of c.read.new.self in
     let new = connections_of c.close.new.self in
-    closes g.S.Stream g.N.Network g.L.Notes now number NoMemory c.args.primary.now c.close.new.primary c.args.network.now c.args.notes.now c.note.new.self c.close.new.notes here new
+    let closed = closes g.S.Stream g.N.Network g.L.Notes now number NoMemory c.args.primary.now c.close.new.primary c.args.network.now c.args.notes.now c.note.new.self c.close.new.notes here new
     (loses g.S.Stream now number here mid c.in_default.ensures.lost) (record { rest = refl; noted = c.note.ensures }) c.close.ensures.told
-    (closed_then g.S.Stream (HasLost g.S.Stream) number here mid new c.in_default.ensures.lost c.close.ensures.gone) c.close.ensures.noted
+    (closed_then g.S.Stream (HasLost g.S.Stream) number here mid new c.in_default.ensures.lost c.close.ensures.gone) c.close.ensures.noted in (
+      Closes number NoMemory ∷ [],
+      record {
+        are = (served c.close.new.primary c.close.new.self c.args.network.now c.close.new.notes, closed, refl);
+        reads = inr (inr refl);
+      },
+      λ none. absurd (let clash : true ≡ false = none in cc),
+    )
 
-pub returns-in-Ended-clause-moments : goal.returns-in-Ended-clause-moments
-returns-in-Ended-clause-moments g c =
+pub returns-in-Ended-clause-reads : goal.returns-in-Ended-clause-reads
+returns-in-Ended-clause-reads g c =
     let now = c.args.now in
     let number = c.args.number in
     let network = c.args.network.now in
     let here = connections_of c.args.self.now in
     let there = places_of c.read.new.self in
     let moved = c.in-Ok.ensures.moved now in
-    and_on g.S.Stream g.N.Network g.L.Notes now (standing c.args.primary.now network c.args.notes.now here) (standing c.args.primary.now network c.args.notes.now there)
-    (served c.close-in-Ended.new.primary c.close-in-Ended.new.self network c.close-in-Ended.new.notes)
-    (moves g.S.Stream g.N.Network g.L.Notes now number c.in-Ok.moved c.args.primary.now network c.args.notes.now here there moved)
-    (closes g.S.Stream g.N.Network g.L.Notes now number HasEnded c.args.primary.now c.close-in-Ended.new.primary network c.args.notes.now c.args.notes.now c.close-in-Ended.new.notes there (connections_of c.close-in-Ended.new.self)
-    (ends g.S.Stream now number c.in-Ok.moved here there c.in-Ended.is moved) refl c.close-in-Ended.ensures.told c.close-in-Ended.ensures.gone c.close-in-Ended.ensures.noted)
+    let closed = closes g.S.Stream g.N.Network g.L.Notes now number HasEnded c.args.primary.now c.close-in-Ended.new.primary network c.args.notes.now c.args.notes.now c.close-in-Ended.new.notes there (connections_of c.close-in-Ended.new.self)
+    (ends g.S.Stream now number c.in-Ok.moved here there c.in-Ended.is moved) refl c.close-in-Ended.ensures.told c.close-in-Ended.ensures.gone c.close-in-Ended.ensures.noted in (
+      Moves number ∷ Closes number HasEnded ∷ [],
+      record {
+        are = (
+          standing c.args.primary.now network c.args.notes.now there,
+          moves g.S.Stream g.N.Network g.L.Notes now number c.in-Ok.moved c.args.primary.now network c.args.notes.now here there
+              (moved_ended g.S.Stream now number c.in-Ok.moved here there c.in-Ended.is moved),
+          (served c.close-in-Ended.new.primary c.close-in-Ended.new.self network c.close-in-Ended.new.notes, closed, refl),
+        );
+        reads = inr (inl (Closes number HasEnded ∷ [], refl, inr (inr (HasEnded, refl))));
+      },
+      λ none. absurd (let clash : true ≡ false = none in cc),
+    )
 
-pub returns-in-Some-clause-moments : goal.returns-in-Some-clause-moments
-returns-in-Some-clause-moments g c =
-    let old = served c.args.primary.now c.args.self.now c.args.network.now c.args.notes.now in
-    let mid = standing c.args.primary.now c.args.network.now c.args.notes.now (places_of c.read.new.self) in
+pub returns-in-Some-clause-reads : goal.returns-in-Some-clause-reads
+returns-in-Some-clause-reads g c =
+    let now = c.args.now in
+    let number = c.args.number in
+    let here = connections_of c.args.self.now in
+    let there = places_of c.read.new.self in
+    let mid = standing c.args.primary.now c.args.network.now c.args.notes.now there in
     let given = standing c.args.primary.now c.args.network.now c.args.notes.now (places_of c.next_message.new.self) in
     let told = standing c.step-effects.new.self c.args.network.now c.args.notes.now (places_of c.next_message.new.self) in
     let new = served c.deliver.new.primary c.deliver.new.self c.deliver.new.network c.deliver.new.notes in
     let handed = c.in-Some.ensures in
-    and_on g.S.Stream g.N.Network g.L.Notes c.args.now old mid new
-    (moves g.S.Stream g.N.Network g.L.Notes c.args.now c.args.number c.in-Ok.moved c.args.primary.now c.args.network.now c.args.notes.now (connections_of c.args.self.now) (places_of c.read.new.self) (c.in-Ok.ensures.moved c.args.now))
-    (happens g.S.Stream g.N.Network g.L.Notes c.args.now (Arrives c.args.number c.deref.result.now) c.step-effects.result mid given told new (
+    let opened = open_become (HasHandedOver now c.in-Some.message.items) number there (places_of c.next_message.new.self) handed in
+    let octets = c.deref.result.now in
+    let goings = c.deliver.ensures.happened.0 in
+    let handles = happened g.S.Stream g.N.Network g.L.Notes now (Arrives number octets) c.step-effects.result goings mid given told new (
       handed.0,
       handed.1,
       handed.2,
-      subst (λ (octets : List ℕ). HasHandedOver c.args.now octets handed.0 handed.1) (sym c.deref.ensures.value) handed.3,
+      subst (λ (octets : List ℕ). HasHandedOver now octets handed.0 handed.1) (sym c.deref.ensures.value) handed.3,
       ap (standing c.args.primary.now c.args.network.now c.args.notes.now) handed.4,
     )
-    (λ m kept. c.step-effects.ensures.step m kept) refl c.deliver.ensures.happened)
+    (λ m kept. c.step-effects.ensures.step m kept) refl c.deliver.ensures.happened.1 in (
+      Moves number ∷ Happens (Arrives number octets) c.step-effects.result goings ∷ [],
+      record {
+        are = (
+          mid,
+          moves g.S.Stream g.N.Network g.L.Notes now number c.in-Ok.moved c.args.primary.now c.args.network.now c.args.notes.now here there
+              (moved_there g.S.Stream now number c.in-Ok.moved here there opened (c.in-Ok.ensures.moved now)),
+          (new, handles, refl),
+        );
+        reads = inr (inl (Happens (Arrives number octets) c.step-effects.result goings ∷ [], refl, inl (octets, c.step-effects.result, goings, refl)));
+      },
+      λ none. absurd (let clash : true ≡ false = none in cc),
+    )
 
-pub returns-then-is_silent-clause-moments : goal.returns-then-is_silent-clause-moments
-returns-then-is_silent-clause-moments g c =
+pub returns-then-is_silent-clause-reads : goal.returns-then-is_silent-clause-reads
+returns-then-is_silent-clause-reads g c =
     let now = c.args.now in
     let number = c.args.number in
     let network = c.args.network.now in
@@ -68,17 +101,54 @@ returns-then-is_silent-clause-moments g c =
     let gone = closed_still number there (places_of c.next_message.new.self) new still c.close-then-is_silent.ensures.gone in
     let silent = subst (λ (cs : List (Option (Connection g.row.S.Denot))). IsOpenWith (IsSilent now) (slice_get cs number)) still
     (c.is_silent.ensures.0 c.if-is_silent.true) in
-    and_on g.S.Stream g.N.Network g.L.Notes now (standing c.args.primary.now network c.args.notes.now here) (standing c.args.primary.now network c.args.notes.now there)
-    (served c.close-then-is_silent.new.primary c.close-then-is_silent.new.self network c.close-then-is_silent.new.notes)
-    (moves g.S.Stream g.N.Network g.L.Notes now number c.in-Ok.moved c.args.primary.now network c.args.notes.now here there (c.in-Ok.ensures.moved c.args.now))
-    (closes g.S.Stream g.N.Network g.L.Notes now number Silent c.args.primary.now c.close-then-is_silent.new.primary network c.args.notes.now c.args.notes.now c.close-then-is_silent.new.notes there new
-    silent refl c.close-then-is_silent.ensures.told gone c.close-then-is_silent.ensures.noted)
+    let opened = open_with (IsSilent now) (slice_get there number) silent in
+    let closed = closes g.S.Stream g.N.Network g.L.Notes now number Silent c.args.primary.now c.close-then-is_silent.new.primary network c.args.notes.now c.args.notes.now c.close-then-is_silent.new.notes there new
+    silent refl c.close-then-is_silent.ensures.told gone c.close-then-is_silent.ensures.noted in (
+      Moves number ∷ Closes number Silent ∷ [],
+      record {
+        are = (
+          standing c.args.primary.now network c.args.notes.now there,
+          moves g.S.Stream g.N.Network g.L.Notes now number c.in-Ok.moved c.args.primary.now network c.args.notes.now here there
+              (moved_there g.S.Stream now number c.in-Ok.moved here there opened (c.in-Ok.ensures.moved now)),
+          (served c.close-then-is_silent.new.primary c.close-then-is_silent.new.self network c.close-then-is_silent.new.notes, closed, refl),
+        );
+        reads = inr (inl (Closes number Silent ∷ [], refl, inr (inr (Silent, refl))));
+      },
+      λ none. absurd (let clash : true ≡ false = none in cc),
+    )
 
-pub returns-clause-moments : goal.returns-clause-moments
-returns-clause-moments g c =
-    let old = served c.args.primary.now c.args.self.now c.args.network.now c.args.notes.now in
-    subst (λ (cs : List (Option (Connection g.row.S.Denot))). MomentsLead g.S.Stream g.N.Network g.L.Notes c.args.now old (standing c.args.primary.now c.args.network.now c.args.notes.now cs)) (sym c.in_default-next_message.ensures.0)
-    (moves g.S.Stream g.N.Network g.L.Notes c.args.now c.args.number c.in-Ok.moved c.args.primary.now c.args.network.now c.args.notes.now (connections_of c.args.self.now) (places_of c.read.new.self) (c.in-Ok.ensures.moved c.args.now))
+pub returns-clause-reads : goal.returns-clause-reads
+returns-clause-reads g c =
+    let now = c.args.now in
+    let number = c.args.number in
+    let here = connections_of c.args.self.now in
+    let there = places_of c.read.new.self in
+    let new = places_of c.next_message.new.self in
+    let standing_as = standing c.args.primary.now c.args.network.now c.args.notes.now in
+    let (same, none) = c.in_default-next_message.ensures in
+    elim (c.in-Ok.ensures.moved now) [
+      | inl (closed, lasts, still) ↦ (
+        [],
+        record { are = ap standing_as (same ∙ still); reads = inl (closed, refl) },
+        λ idle. tt,
+      )
+      | inr on ↦ (
+        Moves number ∷ [],
+        record {
+          are = (standing_as there, moves g.S.Stream g.N.Network g.L.Notes now number c.in-Ok.moved c.args.primary.now c.args.network.now c.args.notes.now here there on, ap standing_as same);
+          reads = inr (inl (
+            [],
+            refl,
+            inr (inl (
+              refl,
+              subst (λ (cs : List (Option (Connection g.row.S.Denot))). IsGoneOr (λ e. held_of e ≡ []) (slice_get cs number)) (sym same)
+                  (none_held (slice_get there number) none),
+            )),
+          ));
+        },
+        λ idle. (tt, tt),
+      )
+    ]
 
 pub returns-in_default-clause-silent : goal.returns-in_default-clause-silent
 returns-in_default-clause-silent g c = λ silent. is_gone (IsInUse c.args.now) c.args.number (places_of c.read.new.self) (connections_of c.close.new.self) c.close.ensures.gone

@@ -1,53 +1,162 @@
-use Rattle.std.proofs.Common.{◌≡◌, ◌∙◌, Bool, true, false, refl, sym, subst}
-use Rattle.std.specs.Prelude.{slice_get}
+use Rattle.std.proofs.Common.{◌≡◌, ◌∙◌, inl, inr, Bool, true, false, [], ◌∷◌, refl, sym, subst}
+use Rattle.std.specs.Prelude.{is_some, slice_get}
+use Rattle.dns_primary.specs.Step.{Pump}
 use Rattle.dns_network.specs.Closing.{HasEnded, Stalled}
 use Rattle.dns_network.specs.Connection.{IsInUse, IsStalled, used_of}
-use Rattle.dns_network.specs.Connections.{IsOpenWith, HasPumped, places_of}
+use Rattle.dns_network.specs.Connections.{IsOpenWith, HasPumped, has_left_at, is_open_at, places_of}
 use Rattle.dns_network.specs.Delivery.{connections_of, served}
-use Rattle.dns_network.proofs.Leads.{and_on, closes, ends, moves, standing}
+use Rattle.dns_network.specs.Turn.{Closes, Happens, Moves}
+use Rattle.dns_network.proofs.Leads.{closes, ends, moves, standing}
+use Rattle.dns_network.proofs.Parts.{clashes, is_none, left_open, moved_ended, moved_open}
 use Rattle.dns_network.proofs.Used.{after_pump, is_gone, not_open, pumped_in_use, unused_left, stalled_left, written_now}
 use Rattle.dns_network.proofs.edge.Edge.serve_connection.Goals as goal
 
-pub returns-in-Ended-clause-moments : goal.returns-in-Ended-clause-moments
-returns-in-Ended-clause-moments g c =
-    let now = c.args.now in
-    let number = c.args.number in
-    let network = c.args.network.now in
-    let here = connections_of c.args.self.now in
-    let there = places_of c.write-moved.new.self in
-    and_on g.S.Stream g.N.Network g.L.Notes now (standing c.args.primary.now network c.args.notes.now here) (standing c.args.primary.now network c.args.notes.now there)
-    (served c.close.new.primary c.close.new.self network c.close.new.notes)
-    (moves g.S.Stream g.N.Network g.L.Notes now number c.write-moved.result c.args.primary.now network c.args.notes.now here there c.write-moved.ensures)
-    (closes g.S.Stream g.N.Network g.L.Notes now number HasEnded c.args.primary.now c.close.new.primary network c.args.notes.now c.args.notes.now c.close.new.notes there (connections_of c.close.new.self)
-    (ends g.S.Stream now number c.write-moved.result here there c.in-Ended.is c.write-moved.ensures) refl c.close.ensures.told c.close.ensures.gone c.close.ensures.noted)
-
-pub returns-then-has_left-clause-moments : goal.returns-then-has_left-clause-moments
-returns-then-has_left-clause-moments g c =
-    moves g.S.Stream g.N.Network g.L.Notes c.args.now c.args.number c.write-moved.result c.args.primary.now c.args.network.now c.args.notes.now (connections_of c.args.self.now) (places_of c.write-moved.new.self) c.write-moved.ensures
-
-pub returns-clause-moments : goal.returns-clause-moments
-returns-clause-moments g c =
-    and_on g.S.Stream g.N.Network g.L.Notes c.args.now (served c.args.primary.now c.args.self.now c.args.network.now c.args.notes.now)
-    (served c.pump.new.primary c.pump.new.self c.pump.new.network c.pump.new.notes) (served c.read_piece.new.primary c.read_piece.new.self c.read_piece.new.network c.read_piece.new.notes)
-    (c.pump.ensures.moments c.args.now) c.read_piece.ensures.moments
-
-pub returns-then-is_stalled-clause-moments : goal.returns-then-is_stalled-clause-moments
-returns-then-is_stalled-clause-moments g c =
-    let now = c.args.now in
-    let number = c.args.number in
-    let network = c.args.network.now in
-    let here = connections_of c.args.self.now in
-    let there = places_of c.write-moved.new.self in
-    and_on g.S.Stream g.N.Network g.L.Notes now (standing c.args.primary.now network c.args.notes.now here) (standing c.args.primary.now network c.args.notes.now there)
-    (served c.close-then-is_stalled.new.primary c.close-then-is_stalled.new.self network c.close-then-is_stalled.new.notes)
-    (moves g.S.Stream g.N.Network g.L.Notes now number c.write-moved.result c.args.primary.now network c.args.notes.now here there c.write-moved.ensures)
-    (closes g.S.Stream g.N.Network g.L.Notes now number Stalled c.args.primary.now c.close-then-is_stalled.new.primary network c.args.notes.now c.args.notes.now c.close-then-is_stalled.new.notes there
-    (connections_of c.close-then-is_stalled.new.self) (c.is_stalled.ensures.0 c.if-is_stalled.true) refl c.close-then-is_stalled.ensures.told c.close-then-is_stalled.ensures.gone c.close-then-is_stalled.ensures.noted)
-
-pub returns-then-pump-clause-moments : goal.returns-then-pump-clause-moments
-returns-then-pump-clause-moments g c = c.pump.ensures.moments c.args.now
-
 -- where there is no connection
+pub returns-then-not-is_open-clause-part : goal.returns-then-not-is_open-clause-part
+returns-then-not-is_open-clause-part g c =
+    let place = slice_get (connections_of c.args.self.now) c.args.number in
+    let closed : is_open_at place ≡ false = sym c.is_open.ensures ∙ c.if-not-is_open.true in (
+      [],
+      record {
+        are = refl;
+        closed = λ no. refl;
+        left = λ left. clashes (is_open_at place) (left_open place left) closed;
+        none_left = λ opened no. clashes (is_open_at place) opened closed;
+      },
+      λ idle. tt,
+    )
+
+-- where octets are left to write
+pub returns-in-Ended-clause-part : goal.returns-in-Ended-clause-part
+returns-in-Ended-clause-part g c =
+    let now = c.args.now in
+    let number = c.args.number in
+    let network = c.args.network.now in
+    let here = connections_of c.args.self.now in
+    let there = places_of c.write-moved.new.self in
+    let left : has_left_at (slice_get here number) ≡ true = sym c.has_left.ensures ∙ c.if-has_left.true in
+    let closed = closes g.S.Stream g.N.Network g.L.Notes now number HasEnded c.args.primary.now c.close.new.primary network c.args.notes.now c.args.notes.now c.close.new.notes there (connections_of c.close.new.self)
+    (ends g.S.Stream now number c.write-moved.result here there c.in-Ended.is c.write-moved.ensures) refl c.close.ensures.told c.close.ensures.gone c.close.ensures.noted in (
+      Moves number ∷ Closes number HasEnded ∷ [],
+      record {
+        are = (
+          standing c.args.primary.now network c.args.notes.now there,
+          moves g.S.Stream g.N.Network g.L.Notes now number c.write-moved.result c.args.primary.now network c.args.notes.now here there
+              (moved_ended g.S.Stream now number c.write-moved.result here there c.in-Ended.is c.write-moved.ensures),
+          (served c.close.new.primary c.close.new.self network c.close.new.notes, closed, refl),
+        );
+        closed = λ no. clashes (is_open_at (slice_get here number)) (left_open (slice_get here number) left) no;
+        left = λ is. (Closes number HasEnded ∷ [], refl, inr (HasEnded, refl));
+        none_left = λ opened no. clashes (has_left_at (slice_get here number)) left no;
+      },
+      λ none. absurd (let clash : true ≡ false = none in cc),
+    )
+
+pub returns-then-is_stalled-clause-part : goal.returns-then-is_stalled-clause-part
+returns-then-is_stalled-clause-part g c =
+    let now = c.args.now in
+    let number = c.args.number in
+    let network = c.args.network.now in
+    let here = connections_of c.args.self.now in
+    let there = places_of c.write-moved.new.self in
+    let left : has_left_at (slice_get here number) ≡ true = sym c.has_left.ensures ∙ c.if-has_left.true in
+    let opened = left_open (slice_get here number) left in
+    let closed = closes g.S.Stream g.N.Network g.L.Notes now number Stalled c.args.primary.now c.close-then-is_stalled.new.primary network c.args.notes.now c.args.notes.now c.close-then-is_stalled.new.notes there
+    (connections_of c.close-then-is_stalled.new.self) (c.is_stalled.ensures.0 c.if-is_stalled.true) refl c.close-then-is_stalled.ensures.told c.close-then-is_stalled.ensures.gone c.close-then-is_stalled.ensures.noted in (
+      Moves number ∷ Closes number Stalled ∷ [],
+      record {
+        are = (
+          standing c.args.primary.now network c.args.notes.now there,
+          moves g.S.Stream g.N.Network g.L.Notes now number c.write-moved.result c.args.primary.now network c.args.notes.now here there
+              (moved_open g.S.Stream now number c.write-moved.result here there opened c.write-moved.ensures),
+          (served c.close-then-is_stalled.new.primary c.close-then-is_stalled.new.self network c.close-then-is_stalled.new.notes, closed, refl),
+        );
+        closed = λ no. clashes (is_open_at (slice_get here number)) opened no;
+        left = λ is. (Closes number Stalled ∷ [], refl, inr (Stalled, refl));
+        none_left = λ is no. clashes (has_left_at (slice_get here number)) left no;
+      },
+      λ none. absurd (let clash : true ≡ false = none in cc),
+    )
+
+pub returns-then-has_left-clause-part : goal.returns-then-has_left-clause-part
+returns-then-has_left-clause-part g c =
+    let number = c.args.number in
+    let here = connections_of c.args.self.now in
+    let there = places_of c.write-moved.new.self in
+    let left : has_left_at (slice_get here number) ≡ true = sym c.has_left.ensures ∙ c.if-has_left.true in
+    let opened = left_open (slice_get here number) left in (
+      Moves number ∷ [],
+      record {
+        are = (
+          standing c.args.primary.now c.args.network.now c.args.notes.now there,
+          moves g.S.Stream g.N.Network g.L.Notes c.args.now number c.write-moved.result c.args.primary.now c.args.network.now c.args.notes.now here there
+              (moved_open g.S.Stream c.args.now number c.write-moved.result here there opened c.write-moved.ensures),
+          refl,
+        );
+        closed = λ no. clashes (is_open_at (slice_get here number)) opened no;
+        left = λ is. ([], refl, inl refl);
+        none_left = λ is no. clashes (has_left_at (slice_get here number)) left no;
+      },
+      λ idle. (tt, tt),
+    )
+
+-- where none are
+pub returns-then-pump-clause-part : goal.returns-then-pump-clause-part
+returns-then-pump-clause-part g c =
+    let number = c.args.number in
+    let place = slice_get (connections_of c.args.self.now) number in
+    let none : has_left_at place ≡ false = sym c.has_left.ensures ∙ c.if-has_left.false in
+    let opened : is_open_at place ≡ true = sym c.is_open.ensures ∙ c.if-not-is_open.false in
+    let new = served c.pump.new.primary c.pump.new.self c.pump.new.network c.pump.new.notes in
+    let (effects, goings, told, pumps) = c.pump.ensures.pumps c.args.now in (
+      Happens (Pump number) effects goings ∷ [],
+      record {
+        are = (new, pumps, refl);
+        closed = λ no. clashes (is_open_at place) opened no;
+        left = λ left. clashes (has_left_at place) left none;
+        none_left = λ is no. record {
+          effects = effects;
+          goings = goings;
+          rest = [];
+          pumped = new;
+          are = refl;
+          pumps = pumps;
+          one = λ one. (refl, refl);
+          none = λ none. clashes (is_some effects.message) (sym told ∙ c.if-pump.true) none;
+        };
+      },
+      λ none. absurd (let clash : true ≡ false = none in cc),
+    )
+
+pub returns-clause-part : goal.returns-clause-part
+returns-clause-part g c =
+    let number = c.args.number in
+    let place = slice_get (connections_of c.args.self.now) number in
+    let none : has_left_at place ≡ false = sym c.has_left.ensures ∙ c.if-has_left.false in
+    let opened : is_open_at place ≡ true = sym c.is_open.ensures ∙ c.if-not-is_open.false in
+    let mid = served c.pump.new.primary c.pump.new.self c.pump.new.network c.pump.new.notes in
+    let (effects, goings, told, pumps) = c.pump.ensures.pumps c.args.now in
+    let (rest, reading, idle) = c.read_piece.ensures.reads in
+    let no_message : is_some effects.message ≡ false = sym told ∙ c.if-pump.false in (
+      Happens (Pump number) effects goings ∷ rest,
+      record {
+        are = (mid, pumps, reading.are);
+        closed = λ no. clashes (is_open_at place) opened no;
+        left = λ left. clashes (has_left_at place) left none;
+        none_left = λ is no. record {
+          effects = effects;
+          goings = goings;
+          rest = rest;
+          pumped = mid;
+          are = refl;
+          pumps = pumps;
+          one = λ one. clashes (is_some effects.message) one no_message;
+          none = λ none. reading;
+        };
+      },
+      λ nothing. (is_none effects.message no_message, idle nothing),
+    )
+
 pub returns-then-not-is_open-clause-stalled : goal.returns-then-not-is_open-clause-stalled
 returns-then-not-is_open-clause-stalled g c = λ stalled. not_open (λ d. used_of d ≡ c.args.now) (slice_get (connections_of c.args.self.now) c.args.number) (sym c.is_open.ensures ∙ c.if-not-is_open.true)
 

@@ -1,0 +1,136 @@
+-- The parts of a turn.
+use Rattle.std.proofs.Common.{◌≡◌, ◌⊎◌, inl, inr, ℕ, zero, suc, Bool, true, false, ◌||◌, List, [], ◌∷◌, ◌++◌, length, Option, Some, None, refl, ap, sym, subst, ◌∙◌}
+use Rattle.std.specs.Prelude.{is_some, slice_get}
+use Rattle.dns_zone.specs.declared.index.ZoneIndex as index
+use Rattle.dns_store.specs.declared.zone_store.ZoneStore as store
+use Rattle.dns_primary.specs.declared.event.Reply.{Reply}
+use Rattle.dns_network.specs.declared.connection.Connection.{Connection}
+use Rattle.dns_network.specs.declared.stream.Moved.{Moved}
+use Rattle.dns_network.specs.declared.stream.Moved.TheVariants.{Ended}
+use Rattle.dns_network.specs.declared.stream.Stream as stream
+use Rattle.dns_network.specs.declared.network.Network.{Ghosts}
+use Rattle.dns_network.specs.declared.network.Notes as notes
+use Rattle.dns_network.specs.Connection.{MovesOn, held_of}
+use Rattle.dns_network.specs.Connections.{HasBecome, HasMovedAt, IsGoneOr, IsOpenWith, has_left_at, is_open, is_open_at}
+use Rattle.dns_network.specs.Delivery.{Served}
+use Rattle.dns_network.specs.Turn.{TurnMoment, Asks, AreMoments, IsMoment}
+use Rattle.dns_network.specs.Turns.{AreIdle, AreServed, EachHasItsPart, HasItsPart, HasParts, IsAccepting, IsReceiving}
+use Rattle.dns_network.proofs.Leads.{MomentsLead}
+use Rattle.dns_network.proofs.Steps.{steps_on}
+
+-- two that are not both
+pub clashes : {A : Type 0} (b : Bool) → b ≡ true → b ≡ false → A
+clashes b is not = absurd (let clash : true ≡ false = sym is ∙ not in cc)
+
+-- none of three
+pub none_of_three : (a b c : Bool) → ((a || b) || c) ≡ false → (a ≡ false) × (b ≡ false) × (c ≡ false)
+none_of_three false false false none = (refl, refl, refl)
+none_of_three true b c none = absurd (let clash : true ≡ false = none in cc)
+none_of_three false true c none = absurd (let clash : true ≡ false = none in cc)
+none_of_three false false true none = absurd (let clash : true ≡ false = none in cc)
+
+pub is_none : (message : Option Reply) → is_some message ≡ false → message ≡ None
+is_none None none = refl
+is_none (Some reply) none = absurd (let clash : true ≡ false = none in cc)
+
+module _ {S : Type 0} where
+  pub open_with : (known : Connection S → Type 0) (place : Option (Option (Connection S))) → IsOpenWith known place → is_open_at place ≡ true
+  open_with known None is = absurd is
+  open_with known (Some None) is = absurd is
+  open_with known (Some (Some c)) is = refl
+
+  pub left_open : (place : Option (Option (Connection S))) → has_left_at place ≡ true → is_open_at place ≡ true
+  left_open None left = left
+  left_open (Some None) left = left
+  left_open (Some (Some c)) left = refl
+
+  pub open_become : (became : Connection S → Connection S → Type 0) (number : ℕ) (old new : List (Option (Connection S))) → HasBecome became number old new
+      → is_open number old ≡ true
+  open_become became number old new (c, e, there, on, set) = ap (λ (place : Option (Option (Connection S))). is_open_at place) there
+
+  -- no message waits on what is there
+  pub none_held : (place : Option (Option (Connection S))) → ((c : Connection S) → place ≡ Some (Some c) → held_of c ≡ [])
+      → IsGoneOr (λ c. held_of c ≡ []) place
+  none_held None none = tt
+  none_held (Some None) none = tt
+  none_held (Some (Some c)) none = none c refl
+
+  -- The connection that was read or written is there: it was before, its stream ended, or it is after.
+  module _ (s : stream.Ghosts S) (now number : ℕ) (moved : Moved) (old new : List (Option (Connection S))) where
+    pub moved_open : is_open number old ≡ true → HasMovedAt s now number moved old new → HasBecome (MovesOn s now moved) number old new
+    moved_open opened (inl (closed, lasts, same)) = clashes (is_open number old) opened closed
+    moved_open opened (inr on) = on
+
+    pub moved_ended : moved ≡ Ended → HasMovedAt s now number moved old new → HasBecome (MovesOn s now moved) number old new
+    moved_ended ended (inl (closed, lasts, same)) = absurd (lasts ended)
+    moved_ended ended (inr on) = on
+
+    pub moved_there : is_open number new ≡ true → HasMovedAt s now number moved old new → HasBecome (MovesOn s now moved) number old new
+    moved_there opened (inl (closed, lasts, same)) =
+        clashes (is_open number new) opened (ap (λ (cs : List (Option (Connection S))). is_open number cs) same ∙ closed)
+    moved_there opened (inr on) = on
+
+-- What is done one after the other is idle if each of it is.
+pub idle_on : (first last : List TurnMoment) → AreIdle first → AreIdle last → AreIdle (first ++ last)
+idle_on [] last is more = more
+idle_on (one ∷ rest) last (idle, is) more = (idle, idle_on rest last is more)
+
+idle_asked : (moments : List TurnMoment) → moments ≡ Asks ∷ [] → AreIdle moments
+idle_asked moments is = subst AreIdle (sym is) (tt, tt)
+
+module _ {I D S N L : Type 0} {i : index.Ghosts I} {d : store.Ghosts D} (s : stream.Ghosts S) (n : Ghosts N S) (l : notes.Ghosts L) (now : ℕ) where
+  -- moments, one after the other
+  pub moments_on : (first last : List TurnMoment) (a b c : Served I D S N L i d) → AreMoments s n l now first a b → AreMoments s n l now last b c
+      → AreMoments s n l now (first ++ last) a c
+  moments_on first last a b c is more = steps_on (λ x one y. IsMoment s n l now one x y) first last a b c is more
+
+  each_moments : (number : ℕ) (moments : List TurnMoment) (old new : Served I D S N L i d) → EachHasItsPart s n l now number moments old new
+      → AreMoments s n l now moments old new
+  each_moments zero moments old new (none, same) = subst (λ (ms : List TurnMoment). AreMoments s n l now ms old new) (sym none) same
+  each_moments (suc number) moments old new (first, last, between, is, before, part) =
+      subst (λ (ms : List TurnMoment). AreMoments s n l now ms old new) (sym is)
+      (moments_on first last old between new (each_moments number first old between before) part.are)
+
+  served_moments : (rested : Option ℕ) (moments : List TurnMoment) (old new : Served I D S N L i d) → AreServed s n l now rested moments old new
+      → AreMoments s n l now moments old new
+  served_moments rested moments old new (inl each) = each_moments (length old.connections) moments old new each
+  served_moments rested moments old new (inr passed) =
+      subst (λ (ms : List TurnMoment). AreMoments s n l now ms old new) (sym passed.none) passed.same
+
+  pub served_leads : (rested : Option ℕ) (moments : List TurnMoment) (old new : Served I D S N L i d) → AreServed s n l now rested moments old new
+      → MomentsLead s n l now old new
+  served_leads rested moments old new is = (moments, served_moments rested moments old new is)
+
+  -- What was rested before rests in that second.
+  rests_before : (before after : Option ℕ) (moments : List TurnMoment) (old new : Served I D S N L i d) → (after ≡ Some now → before ≡ Some now)
+      → AreServed s n l now after moments old new → AreServed s n l now before moments old new
+  rests_before before after moments old new rests (inl each) = inl each
+  rests_before before after moments old new rests (inr passed) =
+      inr (record { rests = rests passed.rests; still = passed.still; none = passed.none; same = passed.same })
+
+  -- The parts before the flush: what is done in them, that they are all, and that nothing was done where each says so.
+  module _ (rested after : Option ℕ) (accepting receiving serving : List TurnMoment) (one two : Bool) (old accepted received new : Served I D S N L i d)
+      (accepts : IsAccepting s n l now one accepting old accepted) (receives : IsReceiving s n l now two receiving accepted received)
+      (serves : AreServed s n l now after serving received new) where
+    pub parts_moments : AreMoments s n l now (accepting ++ receiving ++ serving) old new
+    parts_moments =
+        moments_on (accepting ++ receiving) serving old received new
+        (moments_on accepting receiving old accepted received accepts.are receives.are) (served_moments after serving received new serves)
+
+    pub parts_are : (after ≡ Some now → rested ≡ Some now) → HasParts s n l now rested (accepting ++ receiving ++ serving) old new
+    parts_are rests = record {
+      accepted = accepted;
+      received = received;
+      accepting = accepting;
+      receiving = receiving;
+      serving = serving;
+      are = refl;
+      accepts = (one, accepts);
+      receives = (two, receives);
+      serves = rests_before rested after serving received new rests serves;
+    }
+
+    pub parts_idle : one ≡ false → two ≡ false → AreIdle serving → AreIdle (accepting ++ receiving ++ serving)
+    parts_idle none neither idle =
+        idle_on (accepting ++ receiving) serving
+        (idle_on accepting receiving (idle_asked accepting (accepts.none none).0) (idle_asked receiving (receives.none neither).0)) idle
