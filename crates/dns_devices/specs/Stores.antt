@@ -9,13 +9,14 @@ use Rattle.dns_layout.specs.Sector.{sector_at}
 use Rattle.dns_journal.specs.Reads.{HasRisen, OnlyReads}
 use Rattle.dns_store.specs.declared.root.OpenError.{OpenError}
 use Rattle.dns_store.specs.declared.root.OpenError.TheVariants as told
-use Rattle.dns_store.specs.Damage.{NamesWrong}
-use Rattle.dns_store.specs.Opening.{IsInRange, MayOpen, OpensAsPossible, StopsPossible, TakesPossible}
-use Rattle.dns_store.specs.Opening.{store_device}
+use Rattle.dns_store.specs.Damage.{NamesAltered, NamesSector, NamesWrong}
+use Rattle.dns_store.specs.Opening.{AnswersAs, IsInRange, IsNotReopened, MayOpen, OpensAsPossible}
+use Rattle.dns_store.specs.Opening.{StopsPossible, TakesPossible, store_device}
 use Rattle.dns_store.specs.Opens.{fresh, opens, sizes_of}
 use Rattle.dns_store.specs.Root.{OpenRefusal}
 use Rattle.dns_store.specs.Versions.{Kept, Opened, OpensAsLeft, Shape, newest_after, opened_again}
 use Rattle.dns_store.specs.declared.kept_store.KeptStore.{KeptStore}
+use Rattle.dns_primary.specs.Open.{IsIntactAs, OfAltered, OfSpoilt}
 use Rattle.dns_configuration.specs.declared.configuration.ZoneSettings.{ZoneSettings}
 use Rattle.dns_configuration.specs.declared.files.File.{File}
 use Rattle.dns_configuration.specs.Named.{IsNamed}
@@ -45,12 +46,15 @@ own_shape own = record { apex = own.origin; snapshot = own.snapshot_sectors; jou
 
 -- The store of the device that was opened at the path is this one, with its newest version: it keeps what a
 -- crash might have left of the device, opened once more, whichever versions there were before the base. A
--- crash at any moment of it leaves what opens as one might have left it before.
+-- crash at any moment of it leaves what opens as one might have left it before. The device was intact, and
+-- where some of its sectors were altered, the answer is that for the device before.
 pub record IsStoreOpened {D I : Type 0} {g : Ghosts D} (calls : List (DeviceCall D)) (own : ZoneSettings)
     (store : KeptStore D I g) (newest : Zone) : Type 0 where
   pub device : D
   pub came : calls ≡ call.Opened (string_bytes own.device) (Ok device) ∷ []
   pub apex : newest.apex ≡ own.origin
+  pub intact : IsIntactAs g (own_shape own) device
+  pub altered : OfAltered g (own_shape own) device (λ c o. AnswersAs (own_shape own) o store newest)
   pub taken : g.is_honest device
       → IsInRange own.snapshot_sectors own.journal_sectors
       → MayOpen g (own_shape own) device
@@ -63,13 +67,17 @@ pub record IsStoreOpened {D I : Type 0} {g : Ghosts D} (calls : List (DeviceCall
 
 -- The zone is the newest version of what a crash might have left of the device that was opened at the path,
 -- whichever versions there were before the base; and the device was closed with the same versions, opened
--- once more. A crash at any moment between leaves what opens as one might have left it before.
+-- once more. A crash at any moment between leaves what opens as one might have left it before. The device was
+-- intact, and where some of its sectors were altered, the zone is the newest version of the device before.
 pub record IsDumped {D : Type 0} (g : Ghosts D) (calls : List (DeviceCall D)) (own : ZoneSettings)
     (zone : Zone) : Type 0 where
   pub device : D
   pub after : D
   pub came : IsOpenedAndClosed calls own device after
   pub apex : zone.apex ≡ own.origin
+  pub intact : IsIntactAs g (own_shape own) device
+  pub altered : OfAltered g (own_shape own) device (λ c o.
+      zone ≡ record { apex = own.origin; records = newest_after o.loaded o.versions })
   pub newest : g.is_honest device
       → IsInRange own.snapshot_sectors own.journal_sectors
       → MayOpen g (own_shape own) device
@@ -82,8 +90,9 @@ pub record IsDumped {D : Type 0} (g : Ghosts D) (calls : List (DeviceCall D)) (o
       → LeavesOnly g.moment g.left_since device after (OpensAsPossible g (own_shape own) device)
 
 -- Why the device shows none: if each crash leaves a store that opens, the device failed, memory was refused,
--- or it was opened too often; else the reason is in what is stored on it. It was only read, unless it failed,
--- and closed; and a crash at any moment leaves what opens as one might have left it before.
+-- or it was opened too often; else the reason is in what is stored on it. A sector that is neither zeros nor
+-- its own is named where reading reaches it, and where some were altered, one of them. It was only read,
+-- unless it failed, and closed; and a crash at any moment leaves what opens as one might have left it before.
 pub record CannotBeOpened {D : Type 0} (g : Ghosts D) (calls : List (DeviceCall D)) (own : ZoneSettings)
     (fault : DeviceFault) : Type 0 where
   pub device : D
@@ -102,6 +111,9 @@ pub record CannotBeOpened {D : Type 0} (g : Ghosts D) (calls : List (DeviceCall 
   pub refused : g.is_honest device
       → OpenRefusal (sizes_of (own_shape own)) (g.count device) (sector_at (g.seen device) 0) error
   pub damaged : g.is_honest device → NamesWrong (own_shape own) (g.seen device) error
+  pub not_own : OfSpoilt g (own_shape own) device (λ place. NamesSector place error)
+  pub altered : OfAltered g (own_shape own) device
+      (λ c o. IsNotReopened o.openings error ⊎ NamesAltered c (g.seen device) error)
   pub any_moment : g.is_honest device
       → IsInRange own.snapshot_sectors own.journal_sectors
       → LeavesOnly g.moment g.left_since device back (OpensAsPossible g (own_shape own) device)

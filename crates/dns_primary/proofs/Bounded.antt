@@ -1,5 +1,5 @@
 -- No more waits for a flush than may.
-use Rattle.std.proofs.Common.{◌≡◌, ◌⊎◌, ◌<◌, ◌≤◌, ◌+◌, ℕ, suc, Bool, true, false, inl, inr, ⊎_elim, List, [], ◌∷◌, ◌++◌, length, map, Option, Some, None, refl, sym, ap, subst, ◌∙◌, arith}
+use Rattle.std.proofs.Common.{◌≡◌, ◌⊎◌, ◌<◌, ◌≤◌, ℕ, suc, Bool, true, false, inl, inr, ⊎_elim, List, [], ◌∷◌, ◌++◌, length, map, Option, Some, None, refl, sym, ap, subst, ◌∙◌, arith}
 use Rattle.std.specs.Prelude.{slice_get, slice_set, not, ◌==◌, ◌||◌, nat_lt, if◌then◌else◌}
 use Rattle.std.specs.List.{AllByRecursion}
 use Rattle.std.proofs.lemmas.List.{length-append, length-map}
@@ -224,7 +224,7 @@ checkpointed_fits fails old place (Some z) effects new g h = (checkpoint_fits pl
 event_fits : (fails : List Bool) (old : Machine) (event : Event) (effects : Effects) (new : Machine) → Goes fails old event effects new → AllFit old → AllFit new
 event_fits fails old (Datagram peer octets) effects new g h = served_fits fails old (to.Address peer) peer _ effects new g h
 event_fits fails old (Connect peer) effects new g h = elim (g.1) [
-  | inl c ↦ subst AllFit (sym (c.1).2) (record { few = h.few; each = h.each })
+  | inl c ↦ subst AllFit (sym c.state) (record { few = h.few; each = h.each })
   | inr c ↦ subst AllFit (sym (c.1).state) h
 ]
 event_fits fails old (Arrives number octets) effects new g h = arrived_fits fails old number (peer_at number old.connections) octets effects new g h

@@ -224,7 +224,7 @@ arrived_brings fails old number (Some peer) octets effects new e g =
     served_brings old (Arrives number octets) fails (to.Connection number) peer Tcp octets _ effects new (e, refl, refl) refl g
 
 connected_same : (old : Machine) (peer : Peer) (effects : Effects) (new : Machine) → IsConnected old peer effects new → new.zones ≡ old.zones
-connected_same old peer effects new (inl h) = ap (λ (m : Machine). m.zones) (h.1).2
+connected_same old peer effects new (inl h) = ap (λ (m : Machine). m.zones) h.state
 connected_same old peer effects new (inr h) = ap (λ (m : Machine). m.zones) (h.1).state
 
 checkpointed_same : (fails : List Bool) (old : Machine) (place : ℕ) (o : Option ZoneState) (effects : Effects) (new : Machine) → IsCheckpointed fails old place o effects new → Each2 Same old.zones new.zones

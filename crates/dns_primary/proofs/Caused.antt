@@ -1,6 +1,6 @@
 -- What replies with SERVFAIL come of.
 use Rattle.std.proofs.Common.{◌≡◌, ◌⊎◌, inl, inr, ⊎_elim, ◌<◌, ℕ, Bool, true, false, List, [], ◌∷◌, ◌++◌, length, map, Option, Some, None, Result, Ok, Err, refl, sym, ap, subst, ◌∙◌, arith, suc}
-use Rattle.std.specs.Prelude.{slice_get, not, ◌&&◌, ◌||◌, ◌==◌, ◌%◌, nat_le, nat_lt, is_none, is_some, option_map, if◌then◌else◌}
+use Rattle.std.specs.Prelude.{slice_get, not, ◌&&◌, ◌||◌, ◌==◌, ◌%◌, nat_le, nat_lt, is_none, is_some, option_map}
 use Rattle.std.specs.List.{AllByRecursion, Contains}
 use Rattle.std.proofs.lemmas.Bool.Decides.{nat_tests}
 use Rattle.dns_records.specs.Record.{Record}
@@ -338,7 +338,7 @@ checkpointed fails old place (Some z) effects new g =
 goes : (fails : List Bool) (old : Machine) (event : Event) (effects : Effects) (new : Machine) → Goes fails old event effects new → Ended (EventCause fails old event) old (new, effects.sent)
 goes fails old (Datagram peer octets) effects new g = served fails old (to.Address peer) peer octets Udp (request_of octets Udp) effects new (other_request octets Udp) g
 goes fails old (Connect peer) effects new g = elim (g.1) [
-  | inl c ↦ reaches _ old new _ effects.sent [] (c.1).2 (ap (λ (x : Effects). x.sent) (c.1).3) (record { sent = tt; waiting = waited_all old _ })
+  | inl c ↦ reaches _ old new _ effects.sent [] c.state (ap (λ (x : Effects). x.sent) c.reported) (record { sent = tt; waiting = waited_all old _ })
   | inr c ↦ reaches _ old new old effects.sent [] (c.1).state (c.1).sent (record { sent = tt; waiting = waited_all old _ })
 ]
 goes fails old (Arrives number octets) effects new g = arrived fails old number (peer_at number old.connections) octets effects new g

@@ -209,7 +209,7 @@ module _ (number : ℕ) where
 
   connected_same : (old new : Machine) (peer : Peer) (effects : Effects) → IsConnected old peer effects new → Same old new
   connected_same old new peer effects (inl c) =
-      ap (λ (m : Machine). sending_at number m.connections) (c.1).2 ∙ sym (made_sending (c.1).0 number peer old.connections (c.1).1)
+      ap (λ (m : Machine). sending_at number m.connections) c.state ∙ sym (made_sending c.number number peer old.connections c.free)
   connected_same old new peer effects (inr g) = same_by old new (ap (λ (m : Machine). m.connections) (g.1).state)
 
   sent_elsewhere : (old : Machine) (n : ℕ) (s : Sending) (left : List Record) (out : List Sent) (new : Machine) → (n ≡ number → ⊥) → IsSentOn old n s left out new → Same old new

@@ -81,7 +81,7 @@ module _ {D I : Type 0} {g : Ghosts D} where
   handed_back error zero (x ∷ apexes) (y ∷ settings) (v ∷ devices) [] (c ∷ pending) a s d e each l m n is = absurd each
   handed_back error zero (x ∷ apexes) (y ∷ settings) (v ∷ devices) (w ∷ zones) pending a s d e each l m n is = absurd each
   handed_back error (suc i) (x ∷ apexes) (y ∷ settings) (v ∷ devices) (w ∷ zones) (c ∷ pending) a s d e each l m n is =
-      (each.0.leaves, handed_back error i apexes settings devices zones pending a s d e each.1 (omega (arith, l)) (omega (arith, m)) (omega (arith, n)) is)
+      (each.0.leaves, each.0.intact, handed_back error i apexes settings devices zones pending a s d e each.1 (omega (arith, l)) (omega (arith, m)) (omega (arith, n)) is)
   handed_back error _ _ _ _ _ _ a s d e each l m n is = absurd each
 
 -- what a zone is that may be recovered, and its device
@@ -344,7 +344,7 @@ module _ {D : Type 0} (set_as : ZoneSpec → ZoneState → Type 0) (g : Ghosts D
         }
     all_back error (suc n) place (z ∷ olds) (a ∷ apexes) (s ∷ settings) (d ∷ devices) (e ∷ back) is h =
         let making = IsMaking m event place z in
-        let rest = all_back error n (suc place) olds apexes settings devices back is.1 h.1 in
+        let rest = all_back error n (suc place) olds apexes settings devices back is.1 h.2 in
         record {
           recoverable = (stays_recoverable tries making z a s d is.0 counts_now e h.0, rest.recoverable);
           stopped = rest.stopped;

@@ -1,5 +1,5 @@
 -- Each event keeps what every step keeps.
-use Rattle.std.proofs.Common.{◌≡◌, ℕ, Bool, true, false, inl, inr, ⊎_elim, List, [], ◌∷◌, ◌++◌, map, Option, Some, None, refl, sym, ap, subst, ◌∙◌, append-nil}
+use Rattle.std.proofs.Common.{◌≡◌, ℕ, Bool, true, false, inl, inr, List, [], ◌∷◌, ◌++◌, map, Option, Some, None, refl, sym, ap, subst, ◌∙◌, append-nil}
 use Rattle.std.specs.Prelude.{slice_get, slice_set, not, ◌==◌, if◌then◌else◌}
 use Rattle.std.specs.List.{AllByRecursion}
 use Rattle.dns_records.specs.Record.{Record}
@@ -18,7 +18,7 @@ use Rattle.dns_primary.specs.declared.event.To.TheVariants as to
 use Rattle.dns_primary.specs.Machine.{Setting, ZoneState, Waits, Machine, kept_of, updates_of, peer_at, sending_at}
 use Rattle.dns_primary.specs.Flush.{Sent, Replied, flushed, flush_sends}
 use Rattle.dns_primary.specs.Connections.{connected, closed, without_connection}
-use Rattle.dns_primary.specs.Update.{Asked, Admission, Rejects, Admits, zone_position, admission_in, admission_at, admission, waits, stages, replies, accepted_in, judged_in, admitted, is_full, made_place, answer, room_lacked}
+use Rattle.dns_primary.specs.Update.{Asked, Admission, Rejects, Admits, zone_position, admission_in, admission_at, admission, waits, stages, accepted_in, judged_in, admitted, is_full, made_place, answer, room_lacked}
 use Rattle.dns_primary.specs.Step.{Event, Datagram, Connect, Arrives, Flush, Checkpoint, Pump, Closed, IsCheckpointed, IsUpdateBegun, IsUpdated, Effects, AreFailures, GivesEffects, IsRequestHandled, IsArrived, Goes, Lacks, Step, is_asking, failure, failure_on, failures}
 use Rattle.dns_primary.specs.Checkpoint.{rebased, IsMovedUnlessClosed}
 use Rattle.dns_primary.specs.Runs.{Lasts, AllLast, IsTrueIn, HasHistory}
@@ -198,7 +198,7 @@ checkpointed_goes fails old place (Some z) effects new s g = begun_preserves fai
 event_goes : (fails : List Bool) (old : Machine) (event : Event) (effects : Effects) (new : Machine) → IsSound old → Goes fails old event effects new → Preserves old new effects.sent
 event_goes fails old (Datagram peer octets) effects new s g = served_goes fails old (to.Address peer) peer _ effects new s g
 event_goes fails old (Connect peer) effects new s g = elim (g.1) [
-  | inl c ↦ reaches old new (connected (c.1).0 peer old) effects.sent [] (c.1).2 (ap (λ (x : Effects). x.sent) (c.1).3) (connect_preserves old (c.1).0 peer s)
+  | inl c ↦ reaches old new (connected c.number peer old) effects.sent [] c.state (ap (λ (x : Effects). x.sent) c.reported) (connect_preserves old c.number peer s)
   | inr c ↦ given old effects new old [] [] c.1 (stays old s)
 ]
 event_goes fails old (Arrives number octets) effects new s g = arrived_goes fails old number (peer_at number old.connections) octets effects new s g

@@ -168,7 +168,7 @@ arrived_releases fails old number (Some peer) octets effects new g = served_rele
 event_releases : (fails : List Bool) (old : Machine) (event : Event) (effects : Effects) (new : Machine) → Goes fails old event effects new → Releases old new effects.sent
 event_releases fails old (Datagram peer octets) effects new g = served_releases fails old (to.Address peer) peer _ effects new g
 event_releases fails old (Connect peer) effects new g = elim (g.1) [
-  | inl c ↦ subst (λ (xs : List Sent). Releases old new xs) (sym (ap (λ (x : Effects). x.sent) (c.1).3)) tt
+  | inl c ↦ subst (λ (xs : List Sent). Releases old new xs) (sym (ap (λ (x : Effects). x.sent) c.reported)) tt
   | inr c ↦ subst (λ (xs : List Sent). Releases old new xs) (sym (c.1).sent) tt
 ]
 event_releases fails old (Arrives number octets) effects new g = arrived_releases fails old number (peer_at number old.connections) octets effects new g

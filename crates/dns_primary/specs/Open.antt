@@ -4,14 +4,17 @@ use Rattle.dns_names.specs.Name.{Labels}
 use Rattle.dns_zone.specs.Zone.{Zone}
 use Rattle.dns_sectors.specs.Device.{Content, LeavesOnly}
 use Rattle.dns_sectors.specs.declared.device.Sectors.{Ghosts}
+use Rattle.dns_layout.specs.Own.{IsIntactIn, IsAltered}
 use Rattle.dns_layout.specs.Sector.{sector_at}
-use Rattle.dns_journal.specs.Reads.{HasRisen}
+use Rattle.dns_layout.specs.declared.format.Format.TheVariants.{Two}
+use Rattle.dns_journal.specs.Reads.{HasRisen, OnlyReads}
 use Rattle.dns_store.specs.Versions.{Shape, Opened, opened_again}
 use Rattle.dns_store.specs.Opens.{opens, sizes_of, fresh}
-use Rattle.dns_store.specs.Opening.{IsInRange, MayOpen, OpensAsPossible, StopsPossible, keeps, store_device}
+use Rattle.dns_store.specs.Opening.{AnswersAs, HasRootIn, IsInRange, MayOpen, OpensAsPossible, StopsPossible}
+use Rattle.dns_store.specs.Opening.{keeps, store_device}
 use Rattle.dns_store.specs.Opening as store
 use Rattle.dns_store.specs.Root.{OpenRefusal}
-use Rattle.dns_store.specs.Damage.{NamesWrong}
+use Rattle.dns_store.specs.Damage.{IsSectorRead, NamesAltered, NamesSector, NamesWrong}
 use Rattle.dns_store.specs.declared.kept_store.KeptStore.{KeptStore}
 use Rattle.dns_store.specs.declared.zone_store.ZoneStore as kept
 use Rattle.dns_zone.specs.declared.index.ZoneIndex as index
@@ -32,6 +35,14 @@ shape_of apex s = record { apex = apex; snapshot = s.snapshot; journal = s.journ
 
 abbrev pub device_of_pending : {D I : Type 0} {g : Ghosts D} → PendingZone I (KeptStore D I g) → D
 device_of_pending b = store_device b.store
+
+-- Its zones, and what backs each.
+abbrev pub zones_of : {I S : Type 0} {i : index.Ghosts I} {s : kept.Ghosts S} → Primary I S i s → List Zone
+zones_of primary = primary.zones.items
+
+abbrev pub pending_of : {I S : Type 0} {i : index.Ghosts I} {s : kept.Ghosts S} → Primary I S i s
+    → List (PendingZone I S)
+pending_of primary = primary.pending.items
 
 -- How many zones there are, and the devices of all, in order.
 abbrev pub count_of : {I S : Type 0} {i : index.Ghosts I} {s : kept.Ghosts S} → Primary I S i s → ℕ
@@ -57,16 +68,43 @@ TakesDevice {g} shape device zone b =
     (d : Content) × g.may_leave device d
     × ((o : Opened) → opens shape o d → HasVersions (λ s k. keeps s k) zone b (fresh shape (opened_again o)))
 
--- The device was opened as this zone.
+-- This is said of each sector that reading a store of this shape reaches, and that is neither zeros nor its
+-- own.
+abbrev pub OfSpoilt : {D : Type 0} → Ghosts D → Shape → D → (ℕ → Type 0) → Type 0
+OfSpoilt g shape device says =
+    g.is_honest device → IsInRange shape.snapshot shape.journal → (place : ℕ)
+    → IsSectorRead shape (g.seen device) place
+    → (IsIntactIn Two place (sector_at (g.seen device) place) → ⊥) → says place
+
+-- This is said of each content that opens as these versions and of which the device's has some sectors
+-- altered, none to zeros or to one that is its own.
+abbrev pub OfAltered : {D : Type 0} → Ghosts D → Shape → D → (Content → Opened → Type 0) → Type 0
+OfAltered g shape device says =
+    g.is_honest device → IsInRange shape.snapshot shape.journal → (c : Content) (o : Opened)
+    → opens shape o c → IsAltered Two c (g.seen device) → says c o
+
+-- The first sector of the device is a root of that zone and these sizes, and of the sectors that reading
+-- reaches each is zeros or its own.
+pub record IsIntactAs {D : Type 0} (g : Ghosts D) (shape : Shape) (device : D) : Type 0 where
+  pub root : g.is_honest device
+      → HasRootIn Two (sizes_of shape) (g.count device) (sector_at (g.seen device) 0)
+  pub not_own : OfSpoilt g shape device (λ place. ⊥)
+
+-- The device was opened as this zone. It was intact; and where some of its sectors were altered, the answer
+-- is that for the device before.
 pub record IsOpened {D I : Type 0} {g : Ghosts D} (apex : Labels) (s : ZoneSpec)
     (device : D) (zone : Zone) (b : PendingZone I (KeptStore D I g))
     : Type 0 where
   pub leaves : StaysPossible g apex s device (device_of_pending b)
+  pub intact : IsIntactAs g (shape_of apex s) device
+  pub altered : OfAltered g (shape_of apex s) device (λ c o. AnswersAs (shape_of apex s) o b.store zone)
   pub takes : g.is_honest device → IsInRange s.snapshot s.journal → MayOpen g (shape_of apex s) device
       → TakesDevice (shape_of apex s) device zone b
 
 -- The device was not opened, for this reason: where each crash leaves a store that opens, the device failed,
 -- memory was refused or the store was opened too often; else the reason is in what is stored on the device.
+-- A sector that is neither zeros nor its own is named where reading reaches it, and where some were altered,
+-- one of them. The device was only read and synced, unless it failed.
 pub record IsNotOpened {D : Type 0} (g : Ghosts D) (apex : Labels) (s : ZoneSpec)
     (error : OpenError) (old new : D) : Type 0 where
   pub leaves : StaysPossible g apex s old new
@@ -75,6 +113,10 @@ pub record IsNotOpened {D : Type 0} (g : Ghosts D) (apex : Labels) (s : ZoneSpec
   pub refused : g.is_honest old
       → OpenRefusal (sizes_of (shape_of apex s)) (g.count old) (sector_at (g.seen old) 0) error
   pub damaged : g.is_honest old → NamesWrong (shape_of apex s) (g.seen old) error
+  pub not_own : OfSpoilt g (shape_of apex s) old (λ place. NamesSector place error)
+  pub altered : OfAltered g (shape_of apex s) old
+      (λ c o. store.IsNotReopened o.openings error ⊎ NamesAltered c (g.seen old) error)
+  pub unwritten : (error ≡ Device) ⊎ OnlyReads g old new
   pub failed : error ≡ Device → HasRisen (g.failed old) (g.failed new)
 
 -- The devices of so many first zones were opened as these.
@@ -85,6 +127,13 @@ AreOpened (suc n) (a ∷ apexes) (s ∷ settings) (d ∷ devices) (z ∷ zones) 
     IsOpened a s d z b × AreOpened n apexes settings devices zones pending
 AreOpened _ _ _ _ _ _ = ⊥
 
+-- Those of all zones were opened, and are the primary's.
+abbrev pub AreAllOpened : {D I : Type 0} {g : Ghosts D} {i : index.Ghosts I}
+    {s : kept.Ghosts (KeptStore D I g)} → List Labels → List ZoneSpec → List D
+    → Primary I (KeptStore D I g) i s → Type 0
+AreAllOpened apexes settings devices primary =
+    AreOpened (length settings) apexes settings devices (zones_of primary) (pending_of primary)
+
 -- The devices that came are these now: those of the zones before this position were opened and taken back,
 -- the one of the zone at it was not opened, for this reason, and the others are as they came.
 abbrev pub AreHandedBack : {D : Type 0} → Ghosts D → OpenError → ℕ → List Labels → List ZoneSpec → List D
@@ -92,7 +141,8 @@ abbrev pub AreHandedBack : {D : Type 0} → Ghosts D → OpenError → ℕ → L
 AreHandedBack g error zero (a ∷ apexes) (s ∷ settings) (d ∷ devices) (e ∷ back) =
     IsNotOpened g a s error d e × (back ≡ devices)
 AreHandedBack g error (suc n) (a ∷ apexes) (s ∷ settings) (d ∷ devices) (e ∷ back) =
-    StaysPossible g a s d e × AreHandedBack g error n apexes settings devices back
+    StaysPossible g a s d e × IsIntactAs g (shape_of a s) d
+    × AreHandedBack g error n apexes settings devices back
 AreHandedBack g error _ _ _ _ _ = ⊥
 
 -- ... or memory was refused before any was opened, and all are as they came.

@@ -113,12 +113,19 @@ IsArrived fails old number None octets effects new = (fails ≡ []) × GivesEffe
 IsArrived fails old number (Some peer) octets effects new =
     IsRequestHandled fails old (to.Connection number) peer (handled (shown_zones old) octets Tcp) effects new
 
--- A connection gets a number that no other has, or none where there are as many as may be.
+-- A connection gets a number that no other has, below how many there may be.
+pub record IsAccepted (old : Machine) (peer : Peer) (effects : Effects) (new : Machine) : Type 0 where
+  pub few : length old.connections < most_connections
+  pub number : ℕ
+  pub below : number < most_connections
+  pub free : peer_at number old.connections ≡ None
+  pub state : new ≡ connected number peer old
+  pub reported : effects ≡ record { sent = []; accepted = Some number; noted = Nothing }
+
+-- It does, or it gets none where there are as many as may be.
 abbrev pub IsConnected : Machine → Peer → Effects → Machine → Type 0
 IsConnected old peer effects new =
-    ((length old.connections < most_connections)
-    × ((number : ℕ) × (peer_at number old.connections ≡ None) × (new ≡ connected number peer old)
-    × (effects ≡ record { sent = []; accepted = Some number; noted = Nothing })))
+    IsAccepted old peer effects new
     ⊎ ((most_connections ≤ length old.connections) × GivesEffects effects new old [] [])
 
 -- What an event does where memory is not refused.
@@ -158,10 +165,10 @@ failures m (Checkpoint place) = []
 failures m (Pump number) = []
 failures m (Closed number) = []
 
--- A flush takes no memory, nor does the end of a connection.
+-- A flush takes no memory, nor does a connection that comes or ends.
 abbrev pub takes_memory : Event → Bool
 takes_memory (Datagram peer octets) = true
-takes_memory (Connect peer) = true
+takes_memory (Connect peer) = false
 takes_memory (Arrives number octets) = true
 takes_memory Flush = false
 takes_memory (Checkpoint place) = true

@@ -1,5 +1,6 @@
 //! Events, and what they do to the world.
-ghost use Rattle.std.specs.Prelude.{◌≡◌, ◌≤◌, length};
+ghost use Rattle.std.specs.Prelude.{◌≡◌, ◌<◌, ◌≤◌, ℕ, Some, length};
+ghost use Rattle.dns_primary.specs.Connections.{most_connections};
 ghost use Rattle.dns_primary.specs.To.{is_nowhere, octets_in};
 
 use dns_memory::Heap;
@@ -132,11 +133,12 @@ pub struct Effects {
     pub headers: Vec<HeaderTo, Heap>,
     /// The longer reply: to the request that came, or the next message of a transfer.
     pub message: Option<Reply>,
-    /// The number of a new connection.
+    /// The number of a new connection, below how many there may be.
     pub accepted: Option<usize>,
     /// What is to be known besides.
     pub noted: Noted,
     ghost few: { length headers.items ≤ 32 },
+    ghost below: { (number : ℕ) → accepted ≡ Some number → number < most_connections },
 }
 
 // Written out, so that a proof lets one go by one call (docs/GATE.md).

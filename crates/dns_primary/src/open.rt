@@ -1,6 +1,6 @@
 //! Primaries over devices: the store of each zone is opened, and at the end all devices are handed out again.
-ghost use Rattle.std.specs.Prelude.{◌≡◌, ◌≤◌, ◌+◌, ◌++◌, ℕ, suc, List, length, map, vec_capacity, IfErr};
-ghost use Rattle.std.specs.Prelude.{MatchResult};
+ghost use Rattle.std.specs.Prelude.{◌≡◌, ◌≤◌, ◌+◌, ◌++◌, ℕ, suc, List, length, map, vec_capacity};
+ghost use Rattle.std.specs.Prelude.{IfErr, IfOk, MatchResult};
 ghost use Rattle.dns_primary.specs.Machine.{Machine};
 ghost use Rattle.dns_names.specs.Name.{Labels};
 ghost use Rattle.dns_primary.specs.declared.event.Effects.{Effects as StatedEffects};
@@ -10,11 +10,12 @@ ghost use Rattle.dns_primary.specs.Steps.{SteppedBy};
 ghost use Rattle.dns_primary.specs.HandOut.{AreSetAs};
 ghost use Rattle.dns_primary.specs.Stop.{IsConfigured, IsStopped};
 ghost use Rattle.dns_primary.specs.Keeps.{IsKept};
-ghost use Rattle.dns_primary.specs.Open.{AreDevicesOf, AreDevicesAnew, AreOpened, AreRefused};
+ghost use Rattle.dns_primary.specs.Open.{AreAllOpened, AreDevicesOf, AreDevicesAnew, AreOpened, AreRefused};
 ghost use Rattle.dns_primary.specs.Open.{IsNotOpened, IsOpened};
 ghost use Rattle.dns_primary.specs.Open.{IsRecoveryStopped, LeaveRecovered, count_of};
 ghost use Rattle.dns_primary.specs.Open.{device_of_pending, devices_of};
 
+use crate::connections::no_connections;
 use crate::{Primary, ZoneSpec};
 use arrayvec::ArrayVec;
 use dns_memory::Heap;
@@ -23,7 +24,6 @@ use dns_sectors::Sectors;
 use dns_store::{KeptStore, OpenError, ZoneStore, open, snapshot_len};
 use dns_versions::PendingZone;
 use dns_zone::{Zone, ZoneIndex};
-use slab::Slab;
 
 /// Why a primary was not opened, and all devices, in the order in which they came.
 #[derive(Drop)]
@@ -187,14 +187,24 @@ impl<D: Sectors + Drop, I: ZoneIndex> Primary<I, KeptStore<D, I>> {
             → AreDevicesAnew D.Sectors tries m event apexes.now settings.entry.items devices.entry.items
             → MatchResult result
             (λ p. LeaveRecovered D.Sectors (suc tries) m event 0 m.zones devices.entry.items
-            (map (λ b. device_of_pending b) p.pending.items))
+            (devices_of p))
             (λ e. LeaveRecovered D.Sectors (suc tries) m event 0 m.zones devices.entry.items
             e.devices.items) }
+        // Each device was opened as its zone, whatever was on the others.
+        ensures opened { IfOk result
+            (AreAllOpened apexes.now settings.entry.items devices.entry.items) }
         // Why it is refused, on any devices.
         ensures refused { IfErr result
             (λ e. AreRefused D.Sectors e.error e.place apexes.now settings.entry.items
             devices.entry.items e.devices.items) }
     {
+        let Ok(connections) = no_connections(alloc) else {
+            return Err(NotOpened {
+                place: 0,
+                error: OpenError::OutOfMemory,
+                devices,
+            });
+        };
         let mut devices = devices;
         match open_all(alloc, &mut devices, apexes, &settings) {
             Ok(all) => Ok(Primary {
@@ -203,7 +213,7 @@ impl<D: Sectors + Drop, I: ZoneIndex> Primary<I, KeptStore<D, I>> {
                 settings,
                 waiting: ArrayVec::new(),
                 places: Vec::new(alloc),
-                connections: Slab::new(alloc),
+                connections,
                 transfers: Vec::new(alloc),
             }),
             Err(refusal) => Err(NotOpened {

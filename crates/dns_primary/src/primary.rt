@@ -1,5 +1,6 @@
 //! What a primary keeps.
 ghost use Rattle.std.specs.Prelude.{◌≡◌, ◌≤◌, [], length, vec_capacity};
+ghost use Rattle.dns_primary.specs.Connections.{most_connections};
 
 use crate::transfers::OpenTransfer;
 use crate::{HeaderTo, Peer, Waiting};
@@ -42,4 +43,6 @@ pub struct Primary<I: ZoneIndex, S: ZoneStore> {
     ghost settled: { length zones.items ≡ length settings.items },
     ghost unused: { places.items ≡ [] },
     ghost reserved: { length waiting.items ≤ vec_capacity places },
+    // A new number is below the capacity of the slab.
+    ghost room: { connections.capacity ≡ most_connections },
 }

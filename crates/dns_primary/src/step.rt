@@ -1,7 +1,9 @@
 //! The events, one step each.
-ghost use Rattle.std.specs.Prelude.{◌≡◌, ◌≢◌, ◌≤◌, [], false, None, MatchOption, length, slice_get};
+ghost use Rattle.std.specs.Prelude.{◌≡◌, ◌≢◌, ◌<◌, ◌≤◌, ℕ, [], false, None, Some, MatchOption};
+ghost use Rattle.std.specs.Prelude.{length, slice_get};
 ghost use Rattle.dns_versions.specs.Held.{newest_each};
 ghost use Rattle.dns_primary.specs.declared.event.Noted.TheVariants.{OutOfMemory as StatedLack};
+ghost use Rattle.dns_primary.specs.Connections.{most_connections};
 ghost use Rattle.dns_primary.specs.Machine.{Machine};
 ghost use Rattle.dns_primary.specs.Step.{Arrives, IsFlushed, noted_of, takes_memory};
 ghost use Rattle.dns_primary.specs.Fresh.{IsShown};
@@ -81,10 +83,10 @@ impl<I: ZoneIndex, S: ZoneStore> Primary<I, S> {
     ///   TCP.
     /// - `Pump`: the transfer that is open on the connection gives its next message, and the last one ends
     ///   it. Where memory is refused nothing goes out, and the next pump gives the same message.
-    /// - `Connect`: the connection gets a number that no other has, or none where there are 64.
-    /// - `Flush`: what was staged is made durable and shown, and what waits goes out. `Closed`: what waits to
-    ///   go there goes nowhere, and the transfer that is open there is forgotten.
-    ///   Neither takes memory.
+    /// - `Connect`: the connection gets a number below 64 that no other has, or none where there are 64.
+    ///   `Closed`: what waits to go there goes nowhere, and the transfer that is open there is forgotten.
+    ///   `Flush`: what was staged is made durable and shown, and what waits goes out. None of the three takes
+    ///   memory.
     /// - `Checkpoint`: all zones are flushed; then the one at the position, unless it is closed, gets a later
     ///   base, and keeps the newest changes alone.
     ///
@@ -99,6 +101,7 @@ impl<I: ZoneIndex, S: ZoneStore> Primary<I, S> {
             → SteppedBy old (event_shown event.entry) self.old self.new result }
         ensures memory { takes_memory (event_shown event.entry) ≡ false → result.noted ≢ StatedLack }
         ensures few { length result.headers.items ≤ 32 }
+        ensures below { (number : ℕ) → result.accepted ≡ Some number → number < most_connections }
     {
         match event {
             Event::Datagram(peer, octets) => {

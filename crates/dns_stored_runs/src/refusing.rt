@@ -1,10 +1,9 @@
 //! The run `refuse`: a script is run once for each of its allocations, which is refused.
 //!
 //! A refusal within an event leaves nothing of it, or a flush of an update or a checkpoint; a request is
-//! answered SERVFAIL by a header alone (RFC 1035 section 4.1.1), and a new connection has no number. So
-//! what is printed then is what the script prints that has nothing, or `flush`, in place of that line, and
-//! that answer. Any other refusal ends the run, and what was printed before it is the front of what the
-//! script prints.
+//! answered SERVFAIL by a header alone (RFC 1035 section 4.1.1). So what is printed then is what the script
+//! prints that has nothing, or `flush`, in place of that line, and that answer. Any other refusal ends the run,
+//! and what was printed before it is the front of what the script prints.
 use crate::replaying::{Given, run};
 use crate::{Ended, started};
 use dns_configuration::{DONE, FAILED, File, REFUSED};
@@ -54,7 +53,6 @@ impl<'a> Line<'a> {
                 "{} {} {id}{flags}0000000000000000\n",
                 self.verb, self.peer
             )?),
-            ("connect", _) => Ok(format!(in alloc; "conn none\n")?),
             _ => Ok(String::new(alloc)),
         }
     }

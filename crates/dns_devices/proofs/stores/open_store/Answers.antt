@@ -10,6 +10,8 @@ returns-in-Ok g c = (
     device = c.in_ok-device.device;
     came = refl;
     apex = c.in-Ok.ensures.apex;
+    intact = record { root = c.in-Ok.ensures.root; not_own = c.in-Ok.ensures.not_own };
+    altered = c.in-Ok.ensures.altered;
     taken = c.in-Ok.ensures.opened;
     any_moment = c.in-Ok.ensures.any_moment;
     quiet = c.in-Ok.ensures.quiet;
@@ -33,6 +35,8 @@ returns-in-Err g c = (
     stopped = c.in-Err.ensures.opened;
     refused = c.in-Err.ensures.refused;
     damaged = c.in-Err.ensures.damaged;
+    not_own = c.in-Err.ensures.not_own;
+    altered = c.in-Err.ensures.altered;
     any_moment = c.in-Err.ensures.any_moment;
   }),
 )

@@ -11,6 +11,8 @@ returns-in-Ok g c =
     let e = c.in-Ok.ensures in
     let shape = shape_of c.args.apex.now c.args.own.now in
     record {
+      intact = record { root = e.root; not_own = e.not_own };
+      altered = e.altered;
       leaves = record { honest = λ h. e.honest.1 h; any_moment = λ honest range. e.any_moment honest range };
       takes = λ honest range may.
           (let t = e.opened honest range may in (

@@ -28,7 +28,7 @@ returns-clause-done g c m kept holds =
     } in
     let done = c.stage_at.ensures.done self.settings.items m given holds in
     held_as (HoldsZones g.S.ZoneStore.keeps c.as_slice-zones.result.now new self.settings.items c.stage_at.new.waiting.items m.connections)
-    (IsKept {i = g.I.ZoneIndex} {s = g.S.ZoneStore} (record { zones = self.zones; pending = with_items self.pending new; settings = self.settings; waiting = c.stage_at.new.waiting; places = c.reserve_exact.new.self; connections = self.connections; transfers = self.transfers; as_many = _; settled = _; unused = _; reserved = _ }))
+    (IsKept {i = g.I.ZoneIndex} {s = g.S.ZoneStore} (record { zones = self.zones; pending = with_items self.pending new; settings = self.settings; waiting = c.stage_at.new.waiting; places = c.reserve_exact.new.self; connections = self.connections; transfers = self.transfers; as_many = _; settled = _; unused = _; reserved = _; room = _ }))
     (λ n h. record {
       zones_are = moved3 zones (sym y) (map kept_of n.zones) (λ z b k. HasVersions g.S.ZoneStore.keeps z b k) h.zones_are;
       settings_are = h.settings_are;
