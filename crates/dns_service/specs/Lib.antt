@@ -1,5 +1,9 @@
+pub mod DatagramSockets
 pub mod Log
 pub mod Opening
 pub mod Peers
 pub mod Serve
 pub mod ServedTurns
+pub mod Sockets
+pub mod SystemCalls
+pub mod Udp

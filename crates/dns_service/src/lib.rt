@@ -1,11 +1,14 @@
 //! `serve`: the zones of a configuration over sockets, turn by turn, and the log.
 #![tactic(auto)]
 
+mod datagram_sockets;
 mod log;
 mod opening;
 mod peers;
 mod readiness;
 mod server;
 mod sockets;
+mod system;
+mod udp;
 
 pub use server::{ServeOptions, serve};

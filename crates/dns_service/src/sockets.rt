@@ -1,10 +1,14 @@
 //! The sockets of a server. None of their calls waits but `wait`, which waits until one of them is ready.
-ghost use Rattle.std.specs.Prelude.{◌<◌, []};
+ghost use Rattle.std.specs.Prelude.{◌≡◌, ◌<◌, ◌∷◌, [], IfOk};
+ghost use Rattle.dns_service.specs.DatagramSockets.{AreInOrder, HaveBrought, HaveCarried};
+ghost use Rattle.dns_service.specs.Sockets.{datagrams_of};
 
-use crate::peers::{address_of, peer_of};
+use crate::datagram_sockets::{DatagramSockets, following};
+use crate::peers::peer_of;
 use crate::readiness::{Place, Readiness};
+use crate::system::DatagramCalls;
 use dns_memory::Heap;
-use dns_network::{DatagramSocket, Datagrams, Moved, Network, Stream};
+use dns_network::{Moved, Network, Stream};
 use dns_primary::Peer;
 use mio::net::{TcpListener, TcpStream, UdpSocket};
 use mio::{Events, Interest, Poll, Token};
@@ -12,10 +16,6 @@ use std::io::{self, ErrorKind, Read, Write};
 use std::net::{Net, SocketAddr};
 use std::rc::Rc;
 use std::time::Duration;
-
-/// How many datagrams are tried where the system reports an error in place of one, as after an answer to a
-/// port that is closed.
-const TRIES: usize = 16;
 
 /// How many events are taken up at once.
 const EVENTS: usize = 64;
@@ -30,15 +30,13 @@ const CONNECTIONS: usize = 2 * ADDRESSES;
 
 /// The sockets of a server's addresses, one for connections and one for datagrams on each.
 #[derive(Drop)]
-pub(crate) struct Sockets {
+pub(crate) struct Sockets<C: DatagramCalls> {
     listeners: Vec<Listener, Heap>,
-    datagrams: Vec<Datagrams<Udp>, Heap>,
+    datagrams: DatagramSockets<C>,
     poll: Poll,
     events: Events<Heap>,
     /// Which listener is asked first for the next connection.
     first_listener: usize,
-    /// Which socket of datagrams is asked first for the next one.
-    first_datagrams: usize,
     /// What may be ready of each connection: whether a read or a write may find something to do.
     readiness: Rc<Readiness, Heap>,
 }
@@ -54,16 +52,6 @@ struct Listener {
     may_accept: bool,
 }
 
-/// The socket of datagrams on an address.
-#[derive(Drop)]
-struct Udp {
-    socket: UdpSocket,
-    /// Whether it is a socket of IPv6.
-    is_ipv6: bool,
-    /// The index of its address.
-    local: u8,
-}
-
 /// The connection of a peer.
 ///
 /// Nothing that is proved says what the system does with a socket, so this one is never taken to be faithful.
@@ -72,16 +60,6 @@ pub(crate) struct Socket {
     stream: TcpStream,
     // It comes after the stream, which is let go first: its number is free only when the stream is closed.
     place: Place,
-}
-
-/// The index after this one, the first coming after the last.
-fn following(index: usize, count: usize) -> usize
-    ensures { 0 < count → result < count }
-{
-    match index.checked_add(1) {
-        Some(next) if next < count => next,
-        _ => 0,
-    }
 }
 
 impl Listener {
@@ -100,23 +78,26 @@ impl Listener {
     }
 }
 
-impl Sockets {
+impl Sockets<UdpSocket> {
     /// Those of no address.
-    fn new<R: Net>(heap: Heap, rt: &R) -> io::Result<Sockets> {
+    fn new<R: Net>(heap: Heap, rt: &R) -> io::Result<Sockets<UdpSocket>>
+        ensures { IfOk result (λ sockets. datagrams_of sockets ≡ []) }
+    {
         Ok(Sockets {
             listeners: Vec::new(heap),
-            datagrams: Vec::new(heap),
+            datagrams: DatagramSockets::new(heap),
             poll: Poll::new(rt)?,
             events: Events::with_capacity(heap, EVENTS)?,
             first_listener: 0,
-            first_datagrams: 0,
             readiness: Rc::new(heap, Readiness::new())?,
         })
     }
 
     /// Adds those of an address. Refused where the system refuses one, or eight addresses have theirs.
-    fn add<R: Net>(&mut self, heap: Heap, rt: &R, address: SocketAddr) -> io::Result<()> {
-        let index = self.listeners.len();
+    fn add<R: Net>(&mut self, heap: Heap, rt: &R, address: SocketAddr) -> io::Result<()>
+        ensures { AreInOrder (datagrams_of self.old) → AreInOrder (datagrams_of self.new) }
+    {
+        let index = self.datagrams.count();
         if index >= ADDRESSES {
             return Err(ErrorKind::Other.into());
         }
@@ -126,13 +107,7 @@ impl Sockets {
         let registry = self.poll.registry();
         registry.register(&mut listener, Token(index), Interest::READABLE)?;
         registry.register(&mut socket, Token(ADDRESSES + index), Interest::READABLE)?;
-        let is_ipv6 = address.is_ipv6();
-        let udp = Udp {
-            socket,
-            is_ipv6,
-            local,
-        };
-        self.datagrams.push(Datagrams::new(heap, udp)?)?;
+        self.datagrams.add(heap, socket, address.is_ipv6())?;
         self.listeners.push(Listener {
             socket: listener,
             local,
@@ -147,7 +122,9 @@ impl Sockets {
         heap: Heap,
         rt: &R,
         addresses: &[SocketAddr],
-    ) -> Result<Sockets, Option<SocketAddr>> {
+    ) -> Result<Sockets<UdpSocket>, Option<SocketAddr>>
+        ensures { IfOk result (λ sockets. AreInOrder (datagrams_of sockets)) }
+    {
         let Ok(mut sockets) = Sockets::new(heap, rt) else {
             return Err(addresses.first().copied());
         };
@@ -158,10 +135,14 @@ impl Sockets {
         }
         Ok(sockets)
     }
+}
 
+impl<C: DatagramCalls + Drop> Sockets<C> {
     /// Waits at most so long for events, and takes up what they say. The system reports each change once, and
     /// keeps those for which there was no room.
-    fn take_events(&mut self, timeout: Duration) {
+    fn take_events(&mut self, timeout: Duration)
+        ensures { datagrams_of self.new ≡ datagrams_of self.old }
+    {
         let _polled = self.poll.poll(&mut self.events, Some(timeout));
         for event in &self.events {
             let token = event.token().0;
@@ -188,7 +169,9 @@ impl Sockets {
     }
 
     /// The next connection that came, and its peer. The listeners are asked in turn.
-    fn next_connection(&mut self) -> Option<(TcpStream, Peer)> {
+    fn next_connection(&mut self) -> Option<(TcpStream, Peer)>
+        ensures { datagrams_of self.new ≡ datagrams_of self.old }
+    {
         let count = self.listeners.len();
         let mut index = self.first_listener;
         self.first_listener = following(index, count);
@@ -202,24 +185,20 @@ impl Sockets {
         }
         None
     }
-
-    /// Sends all datagrams that are held back.
-    fn send_all(&mut self) {
-        for datagrams in self.datagrams.iter_mut() {
-            datagrams.send_all();
-        }
-    }
 }
 
-/// Nothing that is proved says what the system does with sockets.
-impl Network<Socket> for Sockets {
-    ghost accepts = { λ _ _ _. Unit {0} };
+impl<C: DatagramCalls + Drop> Network<Socket> for Sockets<C> {
+    ghost accepts = { λ old _ new. datagrams_of new ≡ datagrams_of old };
 
-    ghost receives = { λ _ _ _. Unit {0} };
+    ghost receives = { λ old got new.
+        HaveBrought C.DatagramCalls (datagrams_of old) got (datagrams_of new) };
 
-    ghost sends = { λ _ _ _ _. Unit {0} };
+    ghost sends = { λ old peer octets new.
+        HaveCarried C.DatagramCalls ((octets, peer) ∷ []) [] (datagrams_of old)
+        (datagrams_of new) };
 
-    ghost looks = { λ _ _. Unit {0} };
+    ghost looks = { λ old new.
+        HaveCarried C.DatagramCalls [] [] (datagrams_of old) (datagrams_of new) };
 
     fn accept(&mut self) -> Option<(Socket, Peer)> {
         let (stream, peer) = self.next_connection()?;
@@ -227,37 +206,23 @@ impl Network<Socket> for Sockets {
         Some((socket, peer))
     }
 
-    /// The sockets are asked in turn, so that none of them keeps the others waiting.
     fn receive(&mut self, into: &mut [u8]) -> Option<(usize, Peer)> {
-        let count = self.datagrams.len();
-        let mut index = self.first_datagrams;
-        self.first_datagrams = following(index, count);
-        for _socket in 0..count {
-            if let Some(datagrams) = self.datagrams.get_mut(index) {
-                if let Some(datagram) = datagrams.receive(into) {
-                    return Some(datagram);
-                }
-            }
-            index = following(index, count);
-        }
-        None
+        self.datagrams.receive(into)
     }
 
     /// Sends a datagram by the socket to whose address the peer sent. If a connection may have something to
     /// do a turn may take long, so nothing is held back.
     fn send(&mut self, to: Peer, octets: &[u8]) {
-        if let Some(datagrams) = self.datagrams.get_mut(usize::from(to.local)) {
-            datagrams.send(to, octets);
-        }
+        self.datagrams.send(to, octets);
         if !self.readiness.is_still() {
-            self.send_all();
+            self.datagrams.send_all();
         }
     }
 
     /// Looks which sockets may be ready, and doesn't wait itself. A server that has something to do in every
     /// turn never waits, and would see neither a new connection nor what comes on one that was silent.
     fn look(&mut self) {
-        self.send_all();
+        self.datagrams.send_all();
         self.take_events(Duration::ZERO);
     }
 
@@ -267,30 +232,8 @@ impl Network<Socket> for Sockets {
 
     /// Waits until a socket is ready, or about a second has passed. Each of them had nothing to do.
     fn wait(&mut self) {
-        self.send_all();
+        self.datagrams.send_all();
         self.take_events(Duration::from_secs(1));
-    }
-}
-
-/// Nothing that is proved says what the system does with it.
-impl DatagramSocket for Udp {
-    ghost receives = { λ _ _ _. Unit {0} };
-
-    ghost sends = { λ _ _ _. Unit {0} };
-
-    fn receive(&mut self, into: &mut [u8]) -> Option<(usize, Peer)> {
-        for _try in 0..TRIES {
-            match self.socket.recv_from(into) {
-                Ok((count, address)) => return Some((count, peer_of(address, self.local))),
-                Err(error) if error.kind() == ErrorKind::WouldBlock => return None,
-                Err(_) => {}
-            }
-        }
-        None
-    }
-
-    fn send(&mut self, to: Peer, octets: &[u8]) {
-        let _sent = self.socket.send_to(octets, address_of(to, self.is_ipv6));
     }
 }
 
