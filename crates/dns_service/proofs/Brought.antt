@@ -1,12 +1,12 @@
 -- What the sockets of datagrams carried, each on its address.
-use Rattle.std.proofs.Common.{◌≡◌, ◌⊎◌, inl, inr, ℕ, zero, suc, ◌<◌, ◌≤◌, Bool, true, false, cond, List, [], ◌∷◌, ◌++◌, length, Option, Some, None, refl, ap, sym, subst, ◌∙◌, slice_set, get_or, take, drop, arith, append-nil}
-use Rattle.std.specs.Prelude.{All, IfNone, IfSome, nat_eq, slice_get}
+use Rattle.std.proofs.Common.{◌≡◌, ◌⊎◌, inl, inr, ℕ, zero, suc, ◌<◌, ◌≤◌, Bool, cond, List, [], ◌∷◌, ◌++◌, length, Option, Some, None, refl, ap, sym, subst, ◌∙◌, slice_set, get_or, take, drop, arith, append-nil}
+use Rattle.std.specs.Prelude.{All, IfNone, IfSome, slice_get}
 use Rattle.std.specs.Option.{option_map}
 use Rattle.std.proofs.lemmas.List.{take-append-drop}
-use Rattle.std.proofs.lemmas.Bool.{eqb-true, eq-eqb, ne_eqb}
+use Rattle.std.proofs.lemmas.Bool.{eq-eqb, ne_eqb}
 use Rattle.std.proofs.lemmas.List.Elements.{All-append}
 use Rattle.std.specs.List.{AllZip}
-use Rattle.std.proofs.lemmas.Option.{slice_get_cases, slice_get_read, slice_get_within}
+use Rattle.std.proofs.lemmas.Option.{slice_get_read, slice_get_within}
 use Rattle.dns_primary.specs.declared.event.Peer.{Peer}
 use Rattle.dns_network.specs.declared.datagrams.Datagrams.{Datagrams}
 use Rattle.dns_network.specs.declared.datagram_socket.DatagramSocket as socket
@@ -16,6 +16,7 @@ use Rattle.dns_service.specs.SystemCalls.{Addressed, received_in}
 use Rattle.dns_service.specs.Udp.{HasCarried, HasReceived, HasSent, IsFrom, local_of}
 use Rattle.dns_service.specs.declared.system.DatagramCalls.{Ghosts}
 use Rattle.dns_service.specs.declared.udp.Udp.{Udp}
+use Rattle.dns_service.proofs.Each.{as_long, last_or_before, one_each, same_each, was_there}
 use Rattle.dns_service.proofs.Carried.{carried_on, none_brought, none_carried, one_brought}
 
 -- one that is of an address, and of no other
@@ -25,24 +26,6 @@ own_address local one is = ap (λ (b : Bool). cond b (one ∷ []) []) (eq-eqb on
 pub other_address : (local : ℕ) (one : Datagram) → (one.1.local ≡ local → ⊥) → of_address local (one ∷ []) ≡ []
 other_address local one other = ap (λ (b : Bool). cond b (one ∷ []) []) (ne_eqb one.1.local local other)
 
--- what was put at a position is there, and elsewhere nothing changed
-put_there : {A : Type 0} (xs : List A) (i : ℕ) (x y : A) → slice_get xs i ≡ Some x → slice_get (slice_set xs i y) i ≡ Some y
-put_there [] i x y h = absurd (cc h)
-put_there (z ∷ xs) zero x y h = refl
-put_there (z ∷ xs) (suc i) x y h = put_there xs i x y h
-
-not_there : {A : Type 0} (xs : List A) (i j : ℕ) (y : A) → (i ≡ j → ⊥) → slice_get (slice_set xs i y) j ≡ slice_get xs j
-not_there [] i j y other = refl
-not_there (z ∷ xs) zero zero y other = absurd (other refl)
-not_there (z ∷ xs) zero (suc j) y other = refl
-not_there (z ∷ xs) (suc i) zero y other = refl
-not_there (z ∷ xs) (suc i) (suc j) y other = not_there xs i j y (λ same. other (ap suc same))
-
-as_long : {A : Type 0} (xs : List A) (i : ℕ) (y : A) → length (slice_set xs i y) ≡ length xs
-as_long [] i y = refl
-as_long (z ∷ xs) zero y = refl
-as_long (z ∷ xs) (suc i) y = ap suc (as_long xs i y)
-
 -- What came from an address was sent to the server's address with this index.
 all_from : (n : ℕ) (xs : List Addressed) (came : List Datagram) → AllZip (IsFrom n) xs came → All (λ one. one.1.local ≡ n) came
 all_from n [] [] is k d small = absurd (omega (arith, small))
@@ -50,17 +33,6 @@ all_from n [] (y ∷ ys) is k d small = absurd is
 all_from n (x ∷ xs) [] is k d small = absurd is
 all_from n (x ∷ xs) (y ∷ ys) is zero d small = is.0.1.local_is
 all_from n (x ∷ xs) (y ∷ ys) is (suc k) d small = all_from n xs ys is.1 k d (omega (arith, small))
-
--- one more after others
-last_or_before : {A : Type 0} (xs : List A) (x y : A) (i : ℕ) → slice_get (xs ++ x ∷ []) i ≡ Some y → (slice_get xs i ≡ Some y) ⊎ ((i ≡ length xs) × (x ≡ y))
-last_or_before [] x y zero h = inr (refl, cc h)
-last_or_before [] x y (suc i) h = absurd (cc h)
-last_or_before (z ∷ xs) x y zero h = inl h
-last_or_before (z ∷ xs) x y (suc i) h = go (last_or_before xs x y i h)
-  where
-    go : (slice_get xs i ≡ Some y) ⊎ ((i ≡ length xs) × (x ≡ y)) → (slice_get xs i ≡ Some y) ⊎ ((suc i ≡ suc (length xs)) × (x ≡ y))
-    go (inl there) = inl there
-    go (inr (last, same)) = inr (ap suc last, same)
 
 pub order_same : {C : Type 0} (old new : List (Datagrams (Udp C))) → new ≡ old → AreInOrder old → AreInOrder new
 order_same {C} old new same order = subst (λ (l : List (Datagrams (Udp C))). AreInOrder l) (sym same) order
@@ -83,61 +55,29 @@ one_more {C} old new one is own none order local socket there =
 
 module _ {C : Type 0} (c : Ghosts C) where
   pub none_have : (old : List (Datagrams (Udp C))) → HaveCarried c [] [] old old
-  none_have old = record {
-    count = refl;
-    each = λ local before after there here. (let same : before ≡ after = cc (there, here) in
-        subst (λ (d : Datagrams (Udp C)). HasCarried c [] [] before d) same (none_carried c before));
-  }
+  none_have old = record { count = refl; each = same_each (λ _. HasCarried c [] []) old (λ _. none_carried c) }
 
   -- one of them carried these, and the others nothing
-  pub one_has : (given handed : List Datagram) (old : List (Datagrams (Udp C))) (index : ℕ) (one new : Datagrams (Udp C)) → slice_get old index ≡ Some one
+  one_has : (given handed : List Datagram) (old : List (Datagrams (Udp C))) (index : ℕ) (one new : Datagrams (Udp C)) → slice_get old index ≡ Some one
       → HasCarried c (of_address index given) (of_address index handed) one new
       → ((local : ℕ) → (index ≡ local → ⊥) → (of_address local given ≡ []) × (of_address local handed ≡ []))
       → HaveCarried c given handed old (slice_set old index new)
   one_has given handed old index one new there is others = record {
     count = as_long old index new;
-    each = λ local before after at now. each local before after at now (nat_eq index local) refl;
+    each = one_each (λ local before after. HasCarried c (of_address local given) (of_address local handed) before after) old index one new there is none;
   }
     where
-      each : (local : ℕ) (before after : Datagrams (Udp C)) → slice_get old local ≡ Some before → slice_get (slice_set old index new) local ≡ Some after
-          → (b : Bool) → nat_eq index local ≡ b
-          → HasCarried c (of_address local given) (of_address local handed) before after
-      each local before after at now true e =
-          let same : index ≡ local = eqb-true index local e in
-          let first : one ≡ before = (let f : slice_get old index ≡ Some before = subst (λ (n : ℕ). slice_get old n ≡ Some before) (sym same) at in cc (there, f)) in
-          let last : new ≡ after =
-          (let f : slice_get (slice_set old index new) index ≡ Some after = subst (λ (n : ℕ). slice_get (slice_set old index new) n ≡ Some after) (sym same) now in
-          let g = put_there old index one new there in cc (f, g)) in
-          subst (λ (n : ℕ). HasCarried c (of_address n given) (of_address n handed) before after) same
-          (subst (λ (d : Datagrams (Udp C)). HasCarried c (of_address index given) (of_address index handed) d after) first
-          (subst (λ (d : Datagrams (Udp C)). HasCarried c (of_address index given) (of_address index handed) one d) last is))
-      each local before after at now false e =
-          let other : index ≡ local → ⊥ = λ same. (let clash : true ≡ false = sym (eq-eqb index local same) ∙ e in cc) in
-          let same : before ≡ after = (let f = not_there old index local new other in cc (at, now, f)) in
-          let none = others local other in
-          subst (λ (l : List Datagram). HasCarried c l (of_address local handed) before after) (sym none.0)
-          (subst (λ (l : List Datagram). HasCarried c [] l before after) (sym none.1)
-          (subst (λ (d : Datagrams (Udp C)). HasCarried c [] [] before d) same (none_carried c before)))
-
-  -- what is there after is there before
-  was_there : (given handed : List Datagram) (old new : List (Datagrams (Udp C))) → HaveCarried c given handed old new
-      → (local : ℕ) (after : Datagrams (Udp C)) → slice_get new local ≡ Some after
-      → (before : Datagrams (Udp C)) × (slice_get old local ≡ Some before)
-  was_there given handed old new is local after now = go (slice_get_cases old local).1
-    where
-      within : local < length old
-      within = omega (arith, slice_get_within new local after now, is.count)
-
-      go : ((x : Datagrams (Udp C)) × (local < length old) × (slice_get old local ≡ Some x) × (get_or old local x ≡ x)) ⊎ ((length old ≤ local) × (slice_get old local ≡ None))
-          → (before : Datagrams (Udp C)) × (slice_get old local ≡ Some before)
-      go (inl (x, small, here, e)) = (x, here)
-      go (inr (past, e)) = absurd (omega (arith, within, past))
+      none : (local : ℕ) (d : Datagrams (Udp C)) → (index ≡ local → ⊥) → HasCarried c (of_address local given) (of_address local handed) d d
+      none local d other =
+          let empty = others local other in
+          subst (λ (l : List Datagram). HasCarried c l (of_address local handed) d d) (sym empty.0)
+          (subst (λ (l : List Datagram). HasCarried c [] l d d) (sym empty.1) (none_carried c d))
 
   -- nothing was carried first, and then these
   pub have_on : (given handed : List Datagram) (a b d : List (Datagrams (Udp C))) → HaveCarried c [] [] a b → HaveCarried c given handed b d → HaveCarried c given handed a d
   have_on given handed a b d first then = record {
     count = then.count ∙ first.count;
-    each = λ local before after there here. (let mid = was_there given handed b d then local after here in
+    each = λ local before after there here. (let mid = was_there b d then.count local after here in
         carried_on c [] [] (of_address local given) (of_address local handed) before mid.0 after (first.each local before mid.0 there mid.1) (then.each local mid.0 after mid.1 here));
   }
 
@@ -145,7 +85,7 @@ module _ {C : Type 0} (c : Ghosts C) where
   pub have_more : (given handed : List Datagram) (a b d : List (Datagrams (Udp C))) → HaveCarried c given handed a b → HaveCarried c [] [] b d → HaveCarried c given handed a d
   have_more given handed a b d first then = record {
     count = then.count ∙ first.count;
-    each = λ local before after there here. (let mid = was_there [] [] b d then local after here in
+    each = λ local before after there here. (let mid = was_there b d then.count local after here in
         subst (λ (l : List Datagram). HasCarried c l (of_address local handed) before after) (append-nil (of_address local given))
         (subst (λ (l : List Datagram). HasCarried c (of_address local given ++ []) l before after) (append-nil (of_address local handed))
         (carried_on c (of_address local given) (of_address local handed) [] [] before mid.0 after (first.each local before mid.0 there mid.1) (then.each local mid.0 after mid.1 here))));
@@ -163,7 +103,7 @@ module _ {C : Type 0} (c : Ghosts C) where
   -- Each is still on its address where nothing was handed over.
   pub order_kept : (old new : List (Datagrams (Udp C))) → HaveCarried c [] [] old new → AreInOrder old → AreInOrder new
   order_kept old new is order local after now =
-      let mid = was_there [] [] old new is local after now in
+      let mid = was_there old new is.count local after now in
       let moved = is.each local mid.0 after mid.1 now in
       let on = order local mid.0 mid.1 in
       record {

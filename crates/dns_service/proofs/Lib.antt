@@ -1,7 +1,10 @@
+mod Accepted
 mod Brought
 mod Carried
+mod Each
 pub mod Known
 pub mod Logged
+mod Moved
 mod Passed
 pub mod Said
 pub mod Served

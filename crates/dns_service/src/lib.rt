@@ -2,11 +2,13 @@
 #![tactic(auto)]
 
 mod datagram_sockets;
+mod listeners;
 mod log;
 mod opening;
 mod peers;
 mod readiness;
 mod server;
+mod socket;
 mod sockets;
 mod system;
 mod udp;

@@ -1,18 +1,20 @@
 //! The sockets of a server. None of their calls waits but `wait`, which waits until one of them is ready.
-ghost use Rattle.std.specs.Prelude.{◌≡◌, ◌<◌, ◌∷◌, [], IfOk};
+ghost use Rattle.std.specs.Prelude.{◌≡◌, ◌∷◌, [], IfOk, IfSome};
 ghost use Rattle.dns_service.specs.DatagramSockets.{AreInOrder, HaveBrought, HaveCarried};
-ghost use Rattle.dns_service.specs.Sockets.{datagrams_of};
+ghost use Rattle.dns_service.specs.Socket.{stream_of};
+ghost use Rattle.dns_service.specs.Sockets.{HasAccepted, datagrams_of};
 
-use crate::datagram_sockets::{DatagramSockets, following};
-use crate::peers::peer_of;
+use crate::datagram_sockets::DatagramSockets;
+use crate::listeners::Listeners;
 use crate::readiness::{Place, Readiness};
-use crate::system::DatagramCalls;
+use crate::socket::Socket;
+use crate::system::{DatagramCalls, ListenerCalls, StreamCalls};
 use dns_memory::Heap;
-use dns_network::{Moved, Network, Stream};
+use dns_network::Network;
 use dns_primary::Peer;
-use mio::net::{TcpListener, TcpStream, UdpSocket};
+use mio::net::{TcpListener, UdpSocket};
 use mio::{Events, Interest, Poll, Token};
-use std::io::{self, ErrorKind, Read, Write};
+use std::io::{self, ErrorKind};
 use std::net::{Net, SocketAddr};
 use std::rc::Rc;
 use std::time::Duration;
@@ -30,65 +32,25 @@ const CONNECTIONS: usize = 2 * ADDRESSES;
 
 /// The sockets of a server's addresses, one for connections and one for datagrams on each.
 #[derive(Drop)]
-pub(crate) struct Sockets<C: DatagramCalls> {
-    listeners: Vec<Listener, Heap>,
+pub(crate) struct Sockets<C: DatagramCalls, L> {
+    listeners: Listeners<L>,
     datagrams: DatagramSockets<C>,
     poll: Poll,
     events: Events<Heap>,
-    /// Which listener is asked first for the next connection.
-    first_listener: usize,
     /// What may be ready of each connection: whether a read or a write may find something to do.
     readiness: Rc<Readiness, Heap>,
 }
 
-/// The socket of connections on an address.
-#[derive(Drop)]
-struct Listener {
-    socket: TcpListener,
-    /// The index of its address.
-    local: u8,
-    /// Whether a connection may be waiting. It is false only after a call that found none, and up to the next
-    /// event of the listener.
-    may_accept: bool,
-}
-
-/// The connection of a peer.
-///
-/// Nothing that is proved says what the system does with a socket, so this one is never taken to be faithful.
-#[derive(Drop)]
-pub(crate) struct Socket {
-    stream: TcpStream,
-    // It comes after the stream, which is let go first: its number is free only when the stream is closed.
-    place: Place,
-}
-
-impl Listener {
-    /// The next connection that came, and its peer.
-    fn accept(&mut self) -> Option<(TcpStream, Peer)> {
-        if !self.may_accept {
-            return None;
-        }
-        match self.socket.accept() {
-            Ok((stream, address)) => Some((stream, peer_of(address, self.local))),
-            Err(error) => {
-                self.may_accept = error.kind() != ErrorKind::WouldBlock;
-                None
-            }
-        }
-    }
-}
-
-impl Sockets<UdpSocket> {
+impl Sockets<UdpSocket, TcpListener> {
     /// Those of no address.
-    fn new<R: Net>(heap: Heap, rt: &R) -> io::Result<Sockets<UdpSocket>>
+    fn new<R: Net>(heap: Heap, rt: &R) -> io::Result<Sockets<UdpSocket, TcpListener>>
         ensures { IfOk result (λ sockets. datagrams_of sockets ≡ []) }
     {
         Ok(Sockets {
-            listeners: Vec::new(heap),
+            listeners: Listeners::new(heap),
             datagrams: DatagramSockets::new(heap),
             poll: Poll::new(rt)?,
             events: Events::with_capacity(heap, EVENTS)?,
-            first_listener: 0,
             readiness: Rc::new(heap, Readiness::new())?,
         })
     }
@@ -101,18 +63,13 @@ impl Sockets<UdpSocket> {
         if index >= ADDRESSES {
             return Err(ErrorKind::Other.into());
         }
-        let local = index as u8;
         let mut listener = TcpListener::bind(rt, address)?;
         let mut socket = UdpSocket::bind(rt, address)?;
         let registry = self.poll.registry();
         registry.register(&mut listener, Token(index), Interest::READABLE)?;
         registry.register(&mut socket, Token(ADDRESSES + index), Interest::READABLE)?;
         self.datagrams.add(heap, socket, address.is_ipv6())?;
-        self.listeners.push(Listener {
-            socket: listener,
-            local,
-            may_accept: true,
-        })?;
+        self.listeners.add(listener)?;
         Ok(())
     }
 
@@ -122,7 +79,7 @@ impl Sockets<UdpSocket> {
         heap: Heap,
         rt: &R,
         addresses: &[SocketAddr],
-    ) -> Result<Sockets<UdpSocket>, Option<SocketAddr>>
+    ) -> Result<Sockets<UdpSocket, TcpListener>, Option<SocketAddr>>
         ensures { IfOk result (λ sockets. AreInOrder (datagrams_of sockets)) }
     {
         let Ok(mut sockets) = Sockets::new(heap, rt) else {
@@ -137,7 +94,7 @@ impl Sockets<UdpSocket> {
     }
 }
 
-impl<C: DatagramCalls + Drop> Sockets<C> {
+impl<C: DatagramCalls + Drop, L: Drop> Sockets<C, L> {
     /// Waits at most so long for events, and takes up what they say. The system reports each change once, and
     /// keeps those for which there was no room.
     fn take_events(&mut self, timeout: Duration)
@@ -146,9 +103,10 @@ impl<C: DatagramCalls + Drop> Sockets<C> {
         let _polled = self.poll.poll(&mut self.events, Some(timeout));
         for event in &self.events {
             let token = event.token().0;
-            if let Some(listener) = self.listeners.get_mut(token) {
-                listener.may_accept = true;
-            } else if let Some(number) = token.checked_sub(CONNECTIONS) {
+            if self.listeners.wake(token) {
+                continue;
+            }
+            if let Some(number) = token.checked_sub(CONNECTIONS) {
                 self.readiness.wake(number);
             }
         }
@@ -156,39 +114,19 @@ impl<C: DatagramCalls + Drop> Sockets<C> {
 
     /// The connection of a peer, made ready. There is none where the system refuses that, or no number is
     /// free.
-    fn ready(&self, mut stream: TcpStream) -> Option<Socket> {
-        let place = Place::new(self.readiness.clone().ok()?)?;
-        stream.set_nodelay(true).ok()?;
-        let token = Token(CONNECTIONS + place.number());
-        let both = Interest::READABLE | Interest::WRITABLE;
-        self.poll
-            .registry()
-            .register(&mut stream, token, both)
-            .ok()?;
-        Some(Socket { stream, place })
-    }
-
-    /// The next connection that came, and its peer. The listeners are asked in turn.
-    fn next_connection(&mut self) -> Option<(TcpStream, Peer)>
-        ensures { datagrams_of self.new ≡ datagrams_of self.old }
+    fn ready<T: StreamCalls + Drop>(&self, mut stream: T) -> Option<Socket<T>>
+        ensures { IfSome result (λ socket. T.calls (stream_of socket) ≡ T.calls stream) }
     {
-        let count = self.listeners.len();
-        let mut index = self.first_listener;
-        self.first_listener = following(index, count);
-        for _listener in 0..count {
-            if let Some(listener) = self.listeners.get_mut(index) {
-                if let Some(connection) = listener.accept() {
-                    return Some(connection);
-                }
-            }
-            index = following(index, count);
-        }
-        None
+        let place = Place::new(self.readiness.clone().ok()?)?;
+        let token = Token(CONNECTIONS + place.number());
+        stream.watch(self.poll.registry(), token).ok()?;
+        Some(Socket::new(stream, place))
     }
 }
 
-impl<C: DatagramCalls + Drop> Network<Socket> for Sockets<C> {
-    ghost accepts = { λ old _ new. datagrams_of new ≡ datagrams_of old };
+impl<C: DatagramCalls + Drop, L: ListenerCalls<T> + Drop, T: StreamCalls + Drop> Network<Socket<T>>
+    for Sockets<C, L> {
+    ghost accepts = { HasAccepted L.ListenerCalls T.StreamCalls };
 
     ghost receives = { λ old got new.
         HaveBrought C.DatagramCalls (datagrams_of old) got (datagrams_of new) };
@@ -200,8 +138,8 @@ impl<C: DatagramCalls + Drop> Network<Socket> for Sockets<C> {
     ghost looks = { λ old new.
         HaveCarried C.DatagramCalls [] [] (datagrams_of old) (datagrams_of new) };
 
-    fn accept(&mut self) -> Option<(Socket, Peer)> {
-        let (stream, peer) = self.next_connection()?;
+    fn accept(&mut self) -> Option<(Socket<T>, Peer)> {
+        let (stream, peer) = self.listeners.accept()?;
         let socket = self.ready(stream)?;
         Some((socket, peer))
     }
@@ -234,49 +172,5 @@ impl<C: DatagramCalls + Drop> Network<Socket> for Sockets<C> {
     fn wait(&mut self) {
         self.datagrams.send_all();
         self.take_events(Duration::from_secs(1));
-    }
-}
-
-impl Stream for Socket {
-    ghost received = { λ _. [] };
-
-    ghost sent = { λ _. [] };
-
-    ghost is_faithful = { λ _. ⊥ };
-
-    ghost has_ended = { λ _. Unit {0} };
-
-    /// Where the last read would have waited, and no event came since, the system isn't asked.
-    fn read(&mut self, into: &mut [u8]) -> Moved {
-        if !self.place.may_read() {
-            return Moved::Later;
-        }
-        match self.stream.read(into) {
-            Ok(0) => Moved::Ended,
-            Ok(count) => Moved::Octets(count),
-            Err(error) => {
-                if error.kind() == ErrorKind::WouldBlock {
-                    self.place.note_read_waits();
-                }
-                Moved::after_error(&error)
-            }
-        }
-    }
-
-    /// Where the last write would have waited, and no event came since, the system isn't asked.
-    fn write(&mut self, octets: &[u8]) -> Moved {
-        if !self.place.may_write() {
-            return Moved::Later;
-        }
-        match self.stream.write(octets) {
-            Ok(0) => Moved::Ended,
-            Ok(count) => Moved::Octets(count),
-            Err(error) => {
-                if error.kind() == ErrorKind::WouldBlock {
-                    self.place.note_write_waits();
-                }
-                Moved::after_error(&error)
-            }
-        }
     }
 }

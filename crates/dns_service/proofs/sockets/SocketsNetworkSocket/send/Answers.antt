@@ -1,4 +1,4 @@
-use Rattle.std.proofs.Common.{[], ◌∷◌}
+use Rattle.std.proofs.Common.{[]}
 use Rattle.dns_service.proofs.Brought.{have_more}
 use Rattle.dns_service.proofs.sockets.SocketsNetworkSocket.send.Goals as goal
 
