@@ -1,5 +1,11 @@
+mod Accepted
+mod Brought
+mod Carried
+mod Each
 pub mod Known
 pub mod Logged
+mod Moved
+mod Passed
 pub mod Said
 pub mod Served
 pub mod Turned

@@ -1,5 +1,11 @@
+pub mod DatagramSockets
+pub mod Listeners
 pub mod Log
 pub mod Opening
 pub mod Peers
 pub mod Serve
 pub mod ServedTurns
+pub mod Socket
+pub mod Sockets
+pub mod SystemCalls
+pub mod Udp

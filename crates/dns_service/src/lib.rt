@@ -1,11 +1,16 @@
 //! `serve`: the zones of a configuration over sockets, turn by turn, and the log.
 #![tactic(auto)]
 
+mod datagram_sockets;
+mod listeners;
 mod log;
 mod opening;
 mod peers;
 mod readiness;
 mod server;
+mod socket;
 mod sockets;
+mod system;
+mod udp;
 
 pub use server::{ServeOptions, serve};

@@ -3,6 +3,7 @@ ghost use Rattle.std.specs.Prelude.{◌≤◌};
 
 use dns_memory::Heap;
 use std::cell::Cell;
+use std::io::{self, ErrorKind};
 use std::rc::Rc;
 
 /// A set of numbers below 128, each a bit. Its contents change through a `&`.
@@ -120,16 +121,28 @@ impl Place {
         self.readiness.may_write.has(self.bit)
     }
 
-    /// Notes that a read said that it would wait. Nothing else that a read answers says that there is nothing
+    /// Notes if a read said that it would wait. Nothing else that a read answers says that there is nothing
     /// more.
-    pub(crate) fn note_read_waits(&self) {
-        self.readiness.may_read.clear(self.bit);
+    pub(crate) fn note_read(&self, answer: &io::Result<usize>) {
+        if would_wait(answer) {
+            self.readiness.may_read.clear(self.bit);
+        }
     }
 
-    /// Notes that a write said that it would wait. Nothing else that a write answers says that there is no
+    /// Notes if a write said that it would wait. Nothing else that a write answers says that there is no
     /// room.
-    pub(crate) fn note_write_waits(&self) {
-        self.readiness.may_write.clear(self.bit);
+    pub(crate) fn note_write(&self, answer: &io::Result<usize>) {
+        if would_wait(answer) {
+            self.readiness.may_write.clear(self.bit);
+        }
+    }
+}
+
+/// Whether a call of the system would have had to wait.
+fn would_wait(answer: &io::Result<usize>) -> bool {
+    match answer {
+        Ok(_) => false,
+        Err(error) => error.kind() == ErrorKind::WouldBlock,
     }
 }
 

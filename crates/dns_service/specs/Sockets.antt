@@ -1,0 +1,34 @@
+-- The sockets of a server.
+use Rattle.std.specs.Prelude.{◌≡◌, List, Option, Some, None}
+use Rattle.dns_primary.specs.declared.event.Peer.{Peer}
+use Rattle.dns_network.specs.declared.datagrams.Datagrams.{Datagrams}
+use Rattle.dns_service.specs.DatagramSockets.{sockets_of}
+use Rattle.dns_service.specs.Listeners.{HaveAccepted, listeners_of}
+use Rattle.dns_service.specs.Socket.{stream_of}
+use Rattle.dns_service.specs.declared.listeners.Listener.{Listener}
+use Rattle.dns_service.specs.declared.socket.Socket.{Socket}
+use Rattle.dns_service.specs.declared.sockets.Sockets.{Sockets}
+use Rattle.dns_service.specs.declared.system.ListenerCalls as listener
+use Rattle.dns_service.specs.declared.system.StreamCalls as stream
+use Rattle.dns_service.specs.declared.udp.Udp.{Udp}
+
+-- They were asked for a connection, and this one was handed over: its stream came to the listener of the
+-- address that its peer connected to. Where none was, one that came was let go.
+abbrev pub IsHandedOver : {L T : Type 0} → listener.Ghosts L T → stream.Ghosts T → Option (Socket T × Peer)
+    → List (Listener L) → List (Listener L) → Type 0
+IsHandedOver {L} {T} l s None old new = (came : Option (T × Peer)) × HaveAccepted l came old new
+IsHandedOver {L} {T} l s (Some one) old new =
+    (came : T) × (s.calls (stream_of one.0) ≡ s.calls came) × HaveAccepted l (Some (came, one.1)) old new
+
+module _ {C L : Type 0} where
+  -- Those of datagrams, and those on which peers connect, by the indices of their addresses.
+  abbrev pub datagrams_of : Sockets C L → List (Datagrams (Udp C))
+  datagrams_of sockets = sockets_of sockets.datagrams
+
+  abbrev pub connects_of : Sockets C L → List (Listener L)
+  connects_of sockets = listeners_of sockets.listeners
+
+  abbrev pub HasAccepted : {T : Type 0} → listener.Ghosts L T → stream.Ghosts T → Sockets C L
+      → Option (Socket T × Peer) → Sockets C L → Type 0
+  HasAccepted l s old got new =
+      (datagrams_of new ≡ datagrams_of old) × IsHandedOver l s got (connects_of old) (connects_of new)

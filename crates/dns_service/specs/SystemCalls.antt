@@ -1,0 +1,72 @@
+-- The calls of the system on sockets, and what they answered.
+use Rattle.std.specs.Prelude.{◌≡◌, ◌≢◌, ◌++◌, ◌∷◌, [], ℕ, List, Option, Some, None, Result, Ok, Err, take}
+use Rattle.std.specs.declared.io.Error.{Error}
+use Rattle.std.specs.declared.io.ErrorKind.{ErrorKind}
+use Rattle.std.specs.declared.io.ErrorKind.TheVariants as kind
+use Rattle.std.specs.declared.net.socket_addr.SocketAddr.{SocketAddr}
+use Rattle.std.specs.IoError.{error_kind}
+
+-- Octets, and the address from which they came or to which they go.
+abbrev pub Addressed : Type 0
+Addressed = List ℕ × SocketAddr
+
+-- A call on a socket of datagrams: one was asked for, and this one came, or none did; or one was sent.
+pub data DatagramCall : Type 0 where
+  RecvFrom : Option Addressed → DatagramCall
+  SendTo : Addressed → DatagramCall
+
+-- What was asked for came to the front of a buffer, or there was an error.
+abbrev pub datagram_in : {E : Type 0} → List ℕ → Result (ℕ × SocketAddr) E → Option Addressed
+datagram_in buffer (Ok came) = Some (take came.0 buffer, came.1)
+datagram_in buffer (Err error) = None
+
+-- The datagrams that came in these calls, and those that were sent.
+abbrev pub received_in : List DatagramCall → List Addressed
+received_in [] = []
+received_in (RecvFrom (Some one) ∷ rest) = one ∷ received_in rest
+received_in (RecvFrom None ∷ rest) = received_in rest
+received_in (SendTo one ∷ rest) = received_in rest
+
+abbrev pub sent_in : List DatagramCall → List Addressed
+sent_in [] = []
+sent_in (RecvFrom got ∷ rest) = sent_in rest
+sent_in (SendTo one ∷ rest) = one ∷ sent_in rest
+
+-- A call on a listener: it was asked for a connection, and this one came, with the address of its peer, or
+-- none did.
+pub data ListenerCall (T : Type 0) : Type 0 where
+  Accept : Option (T × SocketAddr) → ListenerCall T
+
+-- The connections that came in these calls.
+abbrev pub accepted_in : {T : Type 0} → List (ListenerCall T) → List (T × SocketAddr)
+accepted_in [] = []
+accepted_in (Accept (Some one) ∷ rest) = one ∷ accepted_in rest
+accepted_in (Accept None ∷ rest) = accepted_in rest
+
+-- A call on a stream: it was read, or written to, and these octets moved, or there was an error of this kind.
+pub data StreamCall : Type 0 where
+  Read : Result (List ℕ) ErrorKind → StreamCall
+  Write : Result (List ℕ) ErrorKind → StreamCall
+
+-- So many octets at the front of these moved, or there was an error.
+abbrev pub moved_of : List ℕ → Result ℕ Error → Result (List ℕ) ErrorKind
+moved_of octets (Ok count) = Ok (take count octets)
+moved_of octets (Err error) = Err (error_kind error)
+
+-- The octets that were read in these calls, and those that were written.
+abbrev pub read_in : List StreamCall → List ℕ
+read_in [] = []
+read_in (Read (Ok octets) ∷ rest) = octets ++ read_in rest
+read_in (Read (Err error) ∷ rest) = read_in rest
+read_in (Write moved ∷ rest) = read_in rest
+
+abbrev pub written_in : List StreamCall → List ℕ
+written_in [] = []
+written_in (Read moved ∷ rest) = written_in rest
+written_in (Write (Ok octets) ∷ rest) = octets ++ written_in rest
+written_in (Write (Err error) ∷ rest) = written_in rest
+
+-- The stream ended, or failed: no octet moved, or there was an error that doesn't pass.
+abbrev pub IsEnd : Result (List ℕ) ErrorKind → Type 0
+IsEnd (Ok octets) = octets ≡ []
+IsEnd (Err error) = (error ≢ kind.WouldBlock) × (error ≢ kind.Interrupted)

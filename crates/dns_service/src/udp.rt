@@ -1,0 +1,72 @@
+//! A socket of datagrams on an address of the server.
+ghost use Rattle.std.specs.Prelude.{◌≡◌, ◌≤◌, ◌∷◌, [], length, take, IfOk, OnErr};
+ghost use Rattle.dns_network.specs.Datagrams.{Datagram};
+ghost use Rattle.dns_service.specs.Udp.{HasReceived, HasSent, HavePassed, by_ipv6, local_of};
+
+use crate::peers::{address_of, peer_of};
+use crate::system::DatagramCalls;
+use dns_network::DatagramSocket;
+use dns_primary::Peer;
+use std::io::{self, ErrorKind};
+
+/// How many datagrams are tried where the system reports an error in place of one, as after an answer to a
+/// port that is closed.
+const TRIES: usize = 16;
+
+/// The socket of datagrams on an address.
+#[derive(Drop)]
+pub(crate) struct Udp<C> {
+    socket: C,
+    /// Whether it is a socket of IPv6.
+    is_ipv6: bool,
+    /// The index of its address.
+    local: u8,
+}
+
+impl<C: DatagramCalls> Udp<C> {
+    /// That of the address with this index, whose family is IPv6 or not.
+    pub(crate) fn new(socket: C, is_ipv6: bool, local: u8) -> Udp<C>
+        ensures local { local_of result ≡ local }
+        ensures family { by_ipv6 result ≡ is_ipv6 }
+    {
+        Udp {
+            socket,
+            is_ipv6,
+            local,
+        }
+    }
+
+    /// Asks once for a datagram.
+    fn receive_once(&mut self, into: &mut [u8]) -> io::Result<(usize, Peer)>
+        ensures few { IfOk result (λ r. r.0 ≤ length into.new) }
+        ensures came { IfOk result
+            (λ r. HavePassed C.DatagramCalls ((take r.0 into.new, r.1) ∷ []) [] self.old self.new) }
+        ensures none { OnErr result (HavePassed C.DatagramCalls [] [] self.old self.new) }
+    {
+        match self.socket.recv_from(into) {
+            Ok((count, address)) => Ok((count, peer_of(address, self.local))),
+            Err(error) => Err(error),
+        }
+    }
+}
+
+impl<C: DatagramCalls> DatagramSocket for Udp<C> {
+    ghost receives = { HasReceived C.DatagramCalls };
+
+    ghost sends = { HasSent C.DatagramCalls };
+
+    fn receive(&mut self, into: &mut [u8]) -> Option<(usize, Peer)> {
+        for _try in 0..TRIES {
+            match self.receive_once(into) {
+                Ok(datagram) => return Some(datagram),
+                Err(error) if error.kind() == ErrorKind::WouldBlock => return None,
+                Err(_) => {}
+            }
+        }
+        None
+    }
+
+    fn send(&mut self, to: Peer, octets: &[u8]) {
+        let _sent = self.socket.send_to(octets, address_of(to, self.is_ipv6));
+    }
+}
