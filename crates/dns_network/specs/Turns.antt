@@ -47,7 +47,7 @@ abbrev pub AreIdle : List TurnMoment → Type 0
 AreIdle [] = Unit {0}
 AreIdle (one ∷ rest) = IsIdle one × AreIdle rest
 
--- The connection of a peer is taken up, and closed again if there is no place with its number; or refused.
+-- The connection of a peer is taken up, and closed again if it is put in no place; or refused.
 abbrev pub TakesOne : List TurnMoment → Type 0
 TakesOne moments =
     ((peer : Peer) × (effects : Effects) × (moments ≡ Connects peer effects ∷ []))

@@ -2,9 +2,9 @@ use Rattle.std.proofs.Common.{◌≡◌, true, false, [], ◌∷◌, refl, inl, 
 use Rattle.dns_primary.specs.Keeps.{IsKept}
 use Rattle.dns_primary.specs.Machine.{Machine}
 use Rattle.dns_network.specs.Closing.{NoPlace}
-use Rattle.dns_network.specs.Delivery.{connections_of, served}
-use Rattle.dns_network.specs.Turn.{Asks, Closes, Connects, HasAsked, HasConnected, HasRefused, Refuses}
-use Rattle.dns_network.proofs.Leads.{closes, one_moment, standing, two_moments}
+use Rattle.dns_network.specs.Delivery.{served}
+use Rattle.dns_network.specs.Turn.{Asks, Closes, ClosedFor, Connects, HasAsked, HasConnected, HasRefused, Refuses}
+use Rattle.dns_network.proofs.Leads.{one_moment, two_moments}
 use Rattle.dns_network.proofs.edge.Edge.accept.Goals as goal
 
 pub returns-in_default-clause-accepts : goal.returns-in_default-clause-accepts
@@ -44,11 +44,11 @@ pub returns-clause-accepts : goal.returns-clause-accepts
 returns-clause-accepts g c =
     let allowed = λ (m : Machine) (kept : IsKept c.args.primary.now m). c.is_full_for.ensures.allowed c.if-is_full_for.false m kept in
     let old = served c.args.primary.now c.args.self.now c.args.network.now c.args.notes.now in
-    let new = served c.open_connection.new.primary c.open_connection.new.self c.accept.new.self c.open_connection.new.notes in
+    let new = served c.open_connection.new.primary c.open_connection.new.self c.open_connection.new.network c.open_connection.new.notes in
     elim c.open_connection.ensures.welcomed [
       | inl (effects, taken) ↦ (
           let connected : HasConnected g.N.Network g.L.Notes c.args.now c.in-Some.peer effects old new =
-          record { stream = c.in-Some.stream; came = c.in-Some.ensures; allowed = allowed; taken = taken } in (
+          record { stream = c.in-Some.stream; asked = c.accept.new.self; came = c.in-Some.ensures; allowed = allowed; taken = taken } in (
             Connects c.in-Some.peer effects ∷ [],
             record {
               are = one_moment g.S.Stream g.N.Network g.L.Notes c.args.now (Connects c.in-Some.peer effects) old new connected;
@@ -57,15 +57,14 @@ returns-clause-accepts g c =
             },
           )
           )
-      | inr (between, place, noted, number, effects, none, taken, lacks, told, gone, closed) ↦ (
-          let mid = standing between c.accept.new.self noted place in
-          let connected : HasConnected g.N.Network g.L.Notes c.args.now c.in-Some.peer effects old mid =
-          record { stream = c.in-Some.stream; came = c.in-Some.ensures; allowed = allowed; taken = taken } in (
+      | inr (opened, effects, number, taken, lacks, closed) ↦ (
+          let connected : HasConnected g.N.Network g.L.Notes c.args.now c.in-Some.peer effects old opened =
+          record { stream = c.in-Some.stream; asked = c.accept.new.self; came = c.in-Some.ensures; allowed = allowed; taken = taken } in
+          let closed_for : ClosedFor g.S.Stream g.L.Notes c.args.now number NoPlace opened new =
+          record { gives = lacks; told = opened; noted = refl; closed = closed } in (
             Connects c.in-Some.peer effects ∷ Closes number NoPlace ∷ [],
             record {
-              are = two_moments g.S.Stream g.N.Network g.L.Notes c.args.now (Connects c.in-Some.peer effects) (Closes number NoPlace) old mid new connected
-                  (closes g.S.Stream g.N.Network g.L.Notes c.args.now number NoPlace between c.open_connection.new.primary c.accept.new.self noted noted c.open_connection.new.notes place (connections_of c.open_connection.new.self)
-                  lacks refl (none, told) gone closed);
+              are = two_moments g.S.Stream g.N.Network g.L.Notes c.args.now (Connects c.in-Some.peer effects) (Closes number NoPlace) old opened new connected closed_for;
               came = λ one. inr (inl (c.in-Some.peer, effects, number, refl));
               none = λ none. absurd (let clash : true ≡ false = none in cc);
             },
