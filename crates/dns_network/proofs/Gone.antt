@@ -31,11 +31,12 @@ split (suc number) (suc at) less = elim (split number at (omega (arith, less))) 
   | inr same ↦ inr (ap suc same)
 ]
 
-placed_stays : {S : Type 0} (s : stream.Ghosts S) (now : ℕ) (known : Connection S → Type 0) (lasts : Lasts s now known) (number : ℕ) (new : S) (accepted : Option ℕ)
-    (before after : List (Option (Connection S))) → IsPlaced now new accepted before after → Is known number before → Is known number after
-placed_stays s now known lasts number new None before after same is = subst (Is known number) (sym same) is
-placed_stays s now known lasts number new (Some target) before after (inl (past, same)) is = subst (Is known number) (sym same) is
-placed_stays s now known lasts number new (Some target) before after (inr (less, (c, from, left, held, used, set))) is =
+placed_stays : {N S : Type 0} (n : Ghosts N S) (s : stream.Ghosts S) (now : ℕ) (known : Connection S → Type 0) (lasts : Lasts s now known) (number : ℕ) (new : S) (accepted : Option ℕ)
+    (asked last : N) (before after : List (Option (Connection S))) → IsPlaced n now new accepted asked last before after → Is known number before → Is known number after
+placed_stays n s now known lasts number new None asked last before after (none, same) is = subst (Is known number) (sym same) is
+placed_stays n s now known lasts number new (Some target) asked last before after (inl (refused, gone)) is = subst (Is known number) (sym gone) (gone_stays known number target before is)
+placed_stays n s now known lasts number new (Some target) asked last before after (inr (watched, is_watched, inl (past, same))) is = subst (Is known number) (sym same) is
+placed_stays n s now known lasts number new (Some target) asked last before after (inr (watched, is_watched, inr (less, (c, from, left, held, used, set)))) is =
     subst (Is known number) (sym set) (put_stays known number target before c (lasts.used c used) is)
 
 module _ {I D S N L : Type 0} {i : index.Ghosts I} {d : store.Ghosts D} (s : stream.Ghosts S) (n : Ghosts N S) (l : notes.Ghosts L) (now : ℕ) where
@@ -72,7 +73,7 @@ module _ {I D S N L : Type 0} {i : index.Ghosts I} {d : store.Ghosts D} (s : str
         subst (Is known number) (sym (ap places h.rest))
         (set_stays known number target old.connections h.before h.after h.there (λ k. lasts.moved h.before h.after h.moved k) is)
     moment_is (Connects peer effects) old new h is =
-        placed_stays s now known lasts number h.stream effects.accepted old.connections new.connections h.taken.placed is
+        placed_stays n s now known lasts number h.stream effects.accepted h.asked new.network old.connections new.connections h.taken.placed is
     moment_is (Refuses peer) old new h is = same_is old new (ap places h.rest) is
     moment_is (Happens event effects goings) old new h is =
         let given = came_is event old h.given h.is_given is in

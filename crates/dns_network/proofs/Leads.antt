@@ -1,5 +1,5 @@
 -- What is done one after the other.
-use Rattle.std.proofs.Common.{◌≡◌, inl, inr, ℕ, ◌+◌, ◌<◌, ◌≤◌, Bool, false, not, ◌==◌, List, [], ◌∷◌, ◌++◌, Option, Some, None, length, map, take, get_or, refl, ap, sym, subst, ◌∙◌, slice_set, arith}
+use Rattle.std.proofs.Common.{◌≡◌, inl, inr, ℕ, zero, suc, ◌+◌, ◌<◌, ◌≤◌, Bool, false, not, ◌==◌, List, [], ◌∷◌, ◌++◌, Option, Some, None, length, map, take, get_or, refl, ap, sym, subst, ◌∙◌, slice_set, arith}
 use Rattle.std.specs.List.{concat}
 use Rattle.std.specs.Prelude.{slice_get}
 use Rattle.std.proofs.lemmas.List.{map-append, set-set, take_more}
@@ -11,7 +11,8 @@ use Rattle.dns_network.specs.declared.stream.Moved.TheVariants.{Ended}
 use Rattle.dns_network.specs.declared.stream.Stream as stream
 use Rattle.dns_network.specs.Closing.{Cause, GivesCause, HasEnded, NoMemory}
 use Rattle.dns_network.specs.Connection.{HasLost, held_of, rest_of, stream_of, unhandled}
-use Rattle.dns_network.specs.Connections.{HasBecome, HasMovedAt, IsOpenWith}
+use Rattle.std.proofs.lemmas.Option.{slice_get_past}
+use Rattle.dns_network.specs.Connections.{HasBecome, HasMovedAt, IsOpenWith, is_open, is_open_at}
 use Rattle.dns_zone.specs.declared.index.ZoneIndex as index
 use Rattle.dns_store.specs.declared.zone_store.ZoneStore as store
 use Rattle.dns_versions.specs.Each.{Each2}
@@ -42,9 +43,14 @@ pub noted_then : {L : Type 0} (l : notes.Ghosts L) (noted : Noted) (accepted : O
     → AreNoted l (notes_of_opened accepted peer) b c → AreNoted l (notes_of noted ++ notes_of_opened accepted peer) a c
 noted_then l noted accepted peer a b c = steps_on (λ old one new. l.takes old one new) (notes_of noted) (notes_of_opened accepted peer) a b c
 
--- a number is past the last place, and nothing has changed
-pub still_past : {A : Type 0} (number : ℕ) (old new : List A) → new ≡ old → length old ≤ number → length new ≤ number
-still_past {A = A} number old new same past = subst (λ (xs : List A). length xs ≤ number) (sym same) past
+-- no connection is where there is no place, or where one was let go
+pub none_past : {S : Type 0} (number : ℕ) (old new : List (Option (Connection S))) → new ≡ old → length old ≤ number → is_open number new ≡ false
+none_past number old new same past = ap (is_open number) same ∙ ap is_open_at (slice_get_past old number past)
+
+pub none_there : {S : Type 0} (number : ℕ) (places : List (Option (Connection S))) → is_open number (slice_set places number None) ≡ false
+none_there number [] = refl
+none_there zero (c ∷ places) = refl
+none_there (suc number) (c ∷ places) = none_there number places
 
 -- a connection was closed, and nothing had changed before
 pub closed_still : {S : Type 0} (number : ℕ) (old mid new : List (Option (Connection S))) → mid ≡ old → new ≡ slice_set mid number None

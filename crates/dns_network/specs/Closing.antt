@@ -1,12 +1,12 @@
 -- Why a connection is closed.
-use Rattle.std.specs.Prelude.{◌≡◌, ◌≤◌, ℕ, List, Option, length, slice_get}
+use Rattle.std.specs.Prelude.{◌≡◌, ℕ, false, List, Option, slice_get}
 use Rattle.dns_network.specs.declared.connection.Connection.{Connection}
 use Rattle.dns_network.specs.declared.stream.Stream.{Ghosts}
 use Rattle.dns_network.specs.Connection.{HasLost, IsInUse, IsSilent, IsStalled, IsUnused, stream_of, used_of}
-use Rattle.dns_network.specs.Connections.{IsGoneOr, IsOpenWith}
+use Rattle.dns_network.specs.Connections.{IsGoneOr, IsOpenWith, is_open}
 
--- Its stream ended or failed; it is silent, or stalled; memory was refused for what was read from it; its
--- number is that of no place.
+-- Its stream ended or failed; it is silent, or stalled; memory was refused for what was read from it; it was
+-- put in no place.
 pub data Cause : Type 0 where
   HasEnded : Cause
   Silent : Cause
@@ -23,7 +23,7 @@ module _ {S : Type 0} where
   GivesCause s now Stalled number places = IsOpenWith (IsStalled now) (slice_get places number)
   GivesCause s now NoMemory number places =
       IsOpenWith (λ c. (lost : Connection S) × HasLost s c lost) (slice_get places number)
-  GivesCause s now NoPlace number places = length places ≤ number
+  GivesCause s now NoPlace number places = is_open number places ≡ false
 
   -- Each connection that was unused in the second `now` is gone, or it was used in that second, or octets are
   -- left to write.

@@ -25,6 +25,10 @@ abbrev pub Accepts : MemoryNetwork → Option (MemoryStream × Peer) → MemoryN
 Accepts old None new = (connections_to old ≡ []) × SendsNothing old new
 Accepts old (Some one) new = (connections_to old ≡ one ∷ connections_to new) × SendsNothing old new
 
+-- Each stream can be watched.
+abbrev pub Watches : MemoryNetwork → ℕ → MemoryStream → Option MemoryStream → MemoryNetwork → Type 0
+Watches old number stream got new = (got ≡ Some stream) × (new ≡ old)
+
 -- The first datagram is taken, as much of it as there is room for, or there is none.
 abbrev pub Receives : MemoryNetwork → Option (List ℕ × Peer) → MemoryNetwork → Type 0
 Receives old None new = (datagrams_to old ≡ []) × SendsNothing old new

@@ -1,11 +1,11 @@
 -- What is done in a turn.
 use Rattle.std.specs.Prelude.{◌≡◌, ◌⊎◌, ◌≤◌, ◌<◌, ℕ, List, [], ◌∷◌, ◌++◌, length}
-use Rattle.std.specs.Prelude.{Option, Some, None, slice_get, slice_set}
+use Rattle.std.specs.Prelude.{Option, Some, None, false, slice_get, slice_set}
 use Rattle.dns_network.specs.declared.connection.Connection.{Connection}
 use Rattle.dns_network.specs.declared.stream.Stream as stream
 use Rattle.dns_network.specs.Closing.{Cause, GivesCause, HasEnded, Silent, Stalled, NoMemory, NoPlace}
 use Rattle.dns_network.specs.Connection.{HasMoved, HasHandedOver, stream_of, unhandled, unwritten_of, used_of}
-use Rattle.dns_network.specs.Connections.{open_connections}
+use Rattle.dns_network.specs.Connections.{is_open, open_connections}
 use Rattle.dns_zone.specs.declared.index.ZoneIndex as index
 use Rattle.dns_store.specs.declared.zone_store.ZoneStore as store
 use Rattle.dns_primary.specs.declared.event.Peer.{Peer}
@@ -45,41 +45,46 @@ IsFlush moments =
 
 module _ {S : Type 0} where
   -- A connection on which nothing came and to which nothing goes yet is put, in the second `now`, in the
-  -- place with the number that the peer got, if it got one and there is such a place.
-  abbrev pub IsPlaced : ℕ → S → Option ℕ → List (Option (Connection S)) → List (Option (Connection S))
-      → Type 0
-  IsPlaced now stream None old new = new ≡ old
-  IsPlaced now stream (Some number) old new =
+  -- place with its number, if there is such a place.
+  abbrev pub IsPut : ℕ → S → ℕ → List (Option (Connection S)) → List (Option (Connection S)) → Type 0
+  IsPut now stream number old new =
       ((length old ≤ number) × (new ≡ old))
       ⊎ ((number < length old)
       × ((c : Connection S) × (stream_of c ≡ stream) × (unwritten_of c ≡ []) × (unhandled c ≡ [])
       × (used_of c ≡ now) × (new ≡ slice_set old number (Some c))))
 
+  -- So is the connection of a peer, if the peer got a number, and the network watches its stream by that.
+  -- Where the network can't, no connection is in that place.
+  abbrev pub IsPlaced : {N : Type 0} → Ghosts N S → ℕ → S → Option ℕ → N → N → List (Option (Connection S))
+      → List (Option (Connection S)) → Type 0
+  IsPlaced n now stream None asked last old new = (last ≡ asked) × (new ≡ old)
+  IsPlaced n now stream (Some number) asked last old new =
+      (n.watches asked number stream None last × (new ≡ slice_set old number None))
+      ⊎ ((watched : S) × n.watches asked number stream (Some watched) last × IsPut now watched number old new)
+
 -- Whichever machine a primary kept, no reply waits for a flush.
 abbrev pub NoneWaits : {I D : Type 0} {i : index.Ghosts I} {d : store.Ghosts D} → Primary I D i d → Type 0
 NoneWaits primary = (m : Machine) → IsKept primary m → m.waiting ≡ []
 
-module _ {I D S L : Type 0} {i : index.Ghosts I} {d : store.Ghosts D} where
-  -- The connection of a peer is taken up: the primary is told of it, it is put in its place, and it is noted.
-  pub record IsTakenUp (l : notes.Ghosts L) (now : ℕ) (stream : S) (peer : Peer) (effects : Effects)
-      (before after : Primary I D i d) (old new : List (Option (Connection S))) (first last : L)
-      : Type 0 where
-    pub told : TakesEvent before (Connect peer) after effects
-    pub placed : IsPlaced now stream effects.accepted old new
-    pub noted : AreNoted l (notes_of effects.noted ++ notes_of_opened effects.accepted peer) first last
-
-  -- It is, or it is and then it is closed again, since there is no place with its number.
-  abbrev pub IsWelcomed : notes.Ghosts L → ℕ → S → Peer → Primary I D i d → Primary I D i d
-      → List (Option (Connection S)) → List (Option (Connection S)) → L → L → Type 0
-  IsWelcomed l now stream peer before after old new first last =
-      ((effects : Effects) × IsTakenUp l now stream peer effects before after old new first last)
-      ⊎ ((between : Primary I D i d) × (place : List (Option (Connection S))) × (mid : L) × (number : ℕ)
-      × (effects : Effects) × (none : Effects)
-      × IsTakenUp l now stream peer effects before between old place first mid
-      × (length place ≤ number) × TakesEvent between (Closed number) after none
-      × (new ≡ slice_set place number None) × l.takes mid (note.Closed number) last)
-
 module _ {I D S N L : Type 0} {i : index.Ghosts I} {d : store.Ghosts D} where
+  -- The connection of a peer is taken up: the primary is told of it, it is noted, and it is put in its place.
+  pub record IsTakenUp (n : Ghosts N S) (l : notes.Ghosts L) (now : ℕ) (stream : S) (peer : Peer)
+      (effects : Effects) (old new : Served I D S N L i d) : Type 0 where
+    pub told : TakesEvent old.primary (Connect peer) new.primary effects
+    pub noted : AreNoted l (notes_of effects.noted ++ notes_of_opened effects.accepted peer) old.notes
+        new.notes
+    pub placed : IsPlaced n now stream effects.accepted old.network new.network old.connections
+        new.connections
+
+  -- It is, or it is and then it is closed again, since it was put in no place.
+  abbrev pub IsWelcomed : Ghosts N S → notes.Ghosts L → ℕ → S → Peer → Served I D S N L i d
+      → Served I D S N L i d → Type 0
+  IsWelcomed n l now stream peer old new =
+      ((effects : Effects) × IsTakenUp n l now stream peer effects old new)
+      ⊎ ((opened : Served I D S N L i d) × (effects : Effects) × (number : ℕ)
+      × IsTakenUp n l now stream peer effects old opened × (is_open number opened.connections ≡ false)
+      × IsClosed l number opened new)
+
   pub record HasAsked (n : Ghosts N S) (old new : Served I D S N L i d) : Type 0 where
     pub rest : new ≡ record old { network = new.network }
     pub nothing : n.accepts old.network None new.network
@@ -96,11 +101,11 @@ module _ {I D S N L : Type 0} {i : index.Ghosts I} {d : store.Ghosts D} where
   pub record HasConnected (n : Ghosts N S) (l : notes.Ghosts L) (now : ℕ) (peer : Peer)
       (effects : Effects) (old new : Served I D S N L i d) : Type 0 where
     pub stream : S
-    pub came : n.accepts old.network (Some (stream, peer)) new.network
+    pub asked : N
+    pub came : n.accepts old.network (Some (stream, peer)) asked
     pub allowed : (m : Machine) → IsKept old.primary m
         → (open_connections old.connections < places_for_all) ⊎ IsListed m peer.address
-    pub taken : IsTakenUp l now stream peer effects old.primary new.primary old.connections
-        new.connections old.notes new.notes
+    pub taken : IsTakenUp n l now stream peer effects (record old { network = asked }) new
 
   -- The connection of a peer came, and its stream was let go: 48 were open, or more, and its address is not
   -- listed. The primary is told nothing of it.

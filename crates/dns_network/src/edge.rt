@@ -188,20 +188,23 @@ impl<S: Stream + Drop> Edge<S> {
         tell(notes, effects.noted);
     }
 
-    /// Opens a connection that a peer made: the primary is told, and it gets its slot. One that gets no
-    /// number is closed at once. It is compiled apart, so that a turn in which none comes doesn't pay for it.
+    /// Opens a connection that a peer made: the primary is told, its stream is watched, and it gets its slot.
+    /// One that gets no number, or can't be watched, is closed at once. It is compiled apart, so that a turn in
+    /// which none comes doesn't pay for it.
     #[inline(never)]
-    fn open_connection<I: ZoneIndex, D: ZoneStore, L: Notes>(
+    fn open_connection<I: ZoneIndex, D: ZoneStore, N: Network<S>, L: Notes>(
         &mut self,
         alloc: Heap,
+        network: &mut N,
         primary: &mut Primary<I, D>,
         notes: &mut L,
         stream: S,
         peer: Peer,
         now: u64,
     )
-        ensures welcomed { IsWelcomed L.Notes now stream peer primary.old primary.new
-            (connections_of self.old) (connections_of self.new) notes.old notes.new }
+        ensures welcomed { IsWelcomed N.Network L.Notes now stream peer
+            (served primary.old self.old network.old notes.old)
+            (served primary.new self.new network.new notes.new) }
         ensures rested { RestsAsBefore self.old self.new }
     {
         let effects = primary.step(alloc, Event::Connect(peer));
@@ -210,7 +213,10 @@ impl<S: Stream + Drop> Edge<S> {
             return notes.note(Note::Refused);
         };
         notes.note(Note::Opened(number, peer));
-        let connection = Connection::new(alloc, stream, now);
+        let Some(watched) = network.watch(number, stream) else {
+            return self.close(alloc, primary, notes, number);
+        };
+        let connection = Connection::new(alloc, watched, now);
         if let Err(_) = self.connections.insert(number, connection) {
             self.close(alloc, primary, notes, number);
             return;
@@ -255,7 +261,7 @@ impl<S: Stream + Drop> Edge<S> {
             notes.note(Note::Refused);
             return true;
         }
-        self.open_connection(alloc, primary, notes, stream, peer, now);
+        self.open_connection(alloc, network, primary, notes, stream, peer, now);
         true
     }
 

@@ -1,7 +1,7 @@
 //! A network in memory, for tests.
 ghost use Rattle.std.specs.Prelude.{◌≡◌, ◌++◌, ◌∷◌, [], map, OnOk, OnErr};
 ghost use Rattle.dns_network.specs.MemoryNetwork.{Accepts, Receives, SendsDatagram, SendsNothing, TakesNote};
-ghost use Rattle.dns_network.specs.MemoryNetwork.{datagrams_from};
+ghost use Rattle.dns_network.specs.MemoryNetwork.{Watches, datagrams_from};
 
 use crate::{MemoryStream, Network, Note, Notes, Octets};
 use dns_memory::Heap;
@@ -83,6 +83,8 @@ impl MemoryNetwork {
 impl Network<MemoryStream> for MemoryNetwork {
     ghost accepts = { Accepts };
 
+    ghost watches = { Watches };
+
     ghost receives = { Receives };
 
     ghost sends = { SendsDatagram };
@@ -94,6 +96,10 @@ impl Network<MemoryStream> for MemoryNetwork {
             return None;
         }
         Some(self.streams.remove(0))
+    }
+
+    fn watch(&mut self, _number: usize, stream: MemoryStream) -> Option<MemoryStream> {
+        Some(stream)
     }
 
     fn receive(&mut self, into: &mut [u8]) -> Option<(usize, Peer)> {

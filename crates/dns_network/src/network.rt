@@ -12,6 +12,9 @@ pub trait Network<S> {
     /// It may go on so where it was asked for a connection, and a peer had made this one, or none had;
     ghost accepts: { Self → Option (S × StatedPeer) → Self → Type 0 };
 
+    /// where it was to watch the stream of a connection by this number, and watches it, or let it go;
+    ghost watches: { Self → ℕ → S → Option S → Self → Type 0 };
+
     /// where it was asked for a datagram, and this one had come, or none;
     ghost receives: { Self → Option (List ℕ × StatedPeer) → Self → Type 0 };
 
@@ -24,6 +27,11 @@ pub trait Network<S> {
     /// The next connection that a peer made: its stream, and the peer.
     fn accept(&mut self) -> Option<(S, Peer)>
         ensures { accepts self.old result self.new };
+
+    /// Watches the stream of the connection that has this number from here on, until it is let go: by that
+    /// number it is known what may be done with it. A stream that can't be watched is let go.
+    fn watch(&mut self, number: usize, stream: S) -> Option<S>
+        ensures { watches self.old number stream result self.new };
 
     /// The next datagram that came, read into a buffer: how many octets it has there, and its peer. What
     /// doesn't fit is cut off.

@@ -3,6 +3,7 @@ pub mod Listeners
 pub mod Log
 pub mod Opening
 pub mod Peers
+pub mod Places
 pub mod Serve
 pub mod ServedTurns
 pub mod Socket

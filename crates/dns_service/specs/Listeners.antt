@@ -1,5 +1,6 @@
 -- The sockets on which peers connect, one on each address.
-use Rattle.std.specs.Prelude.{◌≡◌, ◌∷◌, [], ℕ, nat_eq, List, Option, Some, None, if◌then◌else◌, length, slice_get}
+use Rattle.std.specs.Prelude.{◌≡◌, ◌∷◌, [], ℕ, nat_eq, List, Option, Some, None, if◌then◌else◌, length}
+use Rattle.std.specs.Prelude.{slice_get}
 use Rattle.std.specs.List.{AllZip}
 use Rattle.std.specs.declared.net.socket_addr.SocketAddr.{SocketAddr}
 use Rattle.dns_primary.specs.declared.event.Peer.{Peer}
@@ -25,14 +26,16 @@ listeners_of all = all.listeners.items
 
 module _ {L T : Type 0} where
   -- These connections came to a listener on the address with this index, and no other.
-  pub record HaveCome (l : Ghosts L T) (local : ℕ) (came : List (T × Peer)) (old new : Listener L) : Type 0 where
+  pub record HaveCome (l : Ghosts L T) (local : ℕ) (came : List (T × Peer)) (old new : Listener L)
+      : Type 0 where
     pub made : List (ListenerCall T)
     pub called : HasCalled (l.calls old.socket) (l.calls new.socket) made
     pub from : AllZip (IsOf local) (accepted_in made) came
 
   -- They were asked for a connection, and this one came, to the listener of the address that its peer
   -- connected to, or none did.
-  pub record HaveAccepted (l : Ghosts L T) (got : Option (T × Peer)) (old new : List (Listener L)) : Type 0 where
+  pub record HaveAccepted (l : Ghosts L T) (got : Option (T × Peer)) (old new : List (Listener L))
+      : Type 0 where
     pub count : length new ≡ length old
     pub each : (local : ℕ) (before after : Listener L) → slice_get old local ≡ Some before
         → slice_get new local ≡ Some after → HaveCome l local (taken_at local got) before after

@@ -1,10 +1,11 @@
 -- The sockets of a server.
-use Rattle.std.specs.Prelude.{◌≡◌, List, Option, Some, None}
+use Rattle.std.specs.Prelude.{◌≡◌, ℕ, List, Option, Some, None}
 use Rattle.dns_primary.specs.declared.event.Peer.{Peer}
 use Rattle.dns_network.specs.declared.datagrams.Datagrams.{Datagrams}
 use Rattle.dns_service.specs.DatagramSockets.{sockets_of}
 use Rattle.dns_service.specs.Listeners.{HaveAccepted, listeners_of}
-use Rattle.dns_service.specs.Socket.{stream_of}
+use Rattle.dns_service.specs.Places.{number_of}
+use Rattle.dns_service.specs.Socket.{place_of, stream_of}
 use Rattle.dns_service.specs.declared.listeners.Listener.{Listener}
 use Rattle.dns_service.specs.declared.socket.Socket.{Socket}
 use Rattle.dns_service.specs.declared.sockets.Sockets.{Sockets}
@@ -13,10 +14,10 @@ use Rattle.dns_service.specs.declared.system.StreamCalls as stream
 use Rattle.dns_service.specs.declared.udp.Udp.{Udp}
 
 -- They were asked for a connection, and this one was handed over: its stream came to the listener of the
--- address that its peer connected to. Where none was, one that came was let go.
+-- address that its peer connected to; or none came.
 abbrev pub IsHandedOver : {L T : Type 0} → listener.Ghosts L T → stream.Ghosts T → Option (Socket T × Peer)
     → List (Listener L) → List (Listener L) → Type 0
-IsHandedOver {L} {T} l s None old new = (came : Option (T × Peer)) × HaveAccepted l came old new
+IsHandedOver {L} {T} l s None old new = HaveAccepted l None old new
 IsHandedOver {L} {T} l s (Some one) old new =
     (came : T) × (s.calls (stream_of one.0) ≡ s.calls came) × HaveAccepted l (Some (came, one.1)) old new
 
@@ -32,3 +33,12 @@ module _ {C L : Type 0} where
       → Option (Socket T × Peer) → Sockets C L → Type 0
   HasAccepted l s old got new =
       (datagrams_of new ≡ datagrams_of old) × IsHandedOver l s got (connects_of old) (connects_of new)
+
+  -- Nothing else changed, and the stream of a connection was let go, or is watched by this number; no octet
+  -- moved on it.
+  abbrev pub IsWatched : {T : Type 0} → stream.Ghosts T → Sockets C L → ℕ → Socket T → Option (Socket T)
+      → Sockets C L → Type 0
+  IsWatched s old number socket None new = new ≡ old
+  IsWatched s old number socket (Some watched) new =
+      (new ≡ old) × (s.calls (stream_of watched) ≡ s.calls (stream_of socket))
+      × (number_of (place_of watched) ≡ Some number)

@@ -46,7 +46,8 @@ module _ {C : Type 0} where
   -- These were given to a socket to be sent, and these were handed over by it. What was held back before,
   -- and then what was given, is what went by it and what is held back still. What had arrived, and then what
   -- came by it, is what was handed over and what is left.
-  pub record HasCarried (c : Ghosts C) (given handed : List Datagram) (old new : Datagrams (Udp C)) : Type 0 where
+  pub record HasCarried (c : Ghosts C) (given handed : List Datagram) (old new : Datagrams (Udp C))
+      : Type 0 where
     pub came : List Datagram
     pub went : List Datagram
     pub passed : HavePassed c came went (socket_of old) (socket_of new)

@@ -1,5 +1,6 @@
 //! Which connections may have something to read, and which may take what is written, as events reported.
-ghost use Rattle.std.specs.Prelude.{◌≤◌};
+ghost use Rattle.std.specs.Prelude.{◌≡◌, IsTrue, Some};
+ghost use Rattle.dns_service.specs.Places.{number_of};
 
 use dns_memory::Heap;
 use std::cell::Cell;
@@ -30,11 +31,11 @@ impl Bits {
     fn clear(&self, bit: u128) {
         self.0.set(self.0.get() & !bit);
     }
+}
 
-    /// The least bit that isn't in it, if there is one.
-    fn free(&self) -> Option<u128> {
-        1_u128.checked_shl(self.0.get().trailing_ones())
-    }
+/// The bit of a number, if it has one.
+fn bit_of(number: usize) -> Option<u128> {
+    1_u128.checked_shl(u32::try_from(number).ok()?)
 }
 
 /// What may be ready of all connections, each of which has a number. They share it with the one that takes up
@@ -44,8 +45,6 @@ impl Bits {
 /// read said that it would wait has nothing more to read before its next event; and likewise for a write.
 #[derive(Drop)]
 pub(crate) struct Readiness {
-    /// The numbers that connections have.
-    taken: Bits,
     /// Those where no read said that it would wait since the last event.
     may_read: Bits,
     /// Those where no write said so.
@@ -56,7 +55,6 @@ impl Readiness {
     /// That of no connection.
     pub(crate) fn new() -> Readiness {
         Readiness {
-            taken: Bits::new(),
             may_read: Bits::new(),
             may_write: Bits::new(),
         }
@@ -65,18 +63,14 @@ impl Readiness {
     /// Whether on each connection the last read or the last write said that it would wait. One that has
     /// octets to write isn't read, and one that has none isn't written to.
     pub(crate) fn is_still(&self) -> bool {
-        self.taken.0.get() & self.may_read.0.get() & self.may_write.0.get() == 0
+        self.may_read.0.get() & self.may_write.0.get() == 0
     }
 
-    /// Takes up an event of the connection with this number: it may be ready for both.
-    ///
-    /// An event of an earlier connection with the same number does no harm: it only lets a call be tried that
-    /// finds nothing. No event ever says that a connection isn't ready.
+    /// Takes up an event of the connection with this number: it may be ready for both. No event ever says
+    /// that a connection isn't ready. The events of a poll are taken up at once, so that each is of a
+    /// connection that is still open.
     pub(crate) fn wake(&self, number: usize) {
-        let Ok(number) = u32::try_from(number) else {
-            return;
-        };
-        if let Some(bit) = 1_u128.checked_shl(number) {
+        if let Some(bit) = bit_of(number) {
             self.may_both(bit);
         }
     }
@@ -88,44 +82,58 @@ impl Readiness {
     }
 }
 
-/// The number of a connection among all. It is free again when this is let go.
+/// What is known of a connection's readiness. It has a number from when it is watched on, and is not ready
+/// before.
 pub(crate) struct Place {
     readiness: Rc<Readiness, Heap>,
-    bit: u128,
+    number: Option<usize>,
 }
 
 impl Place {
-    /// The least number that is free. Both a read and a write may find something to do there. There is none
-    /// while 128 are taken.
-    pub(crate) fn new(readiness: Rc<Readiness, Heap>) -> Option<Place> {
-        let bit = readiness.taken.free()?;
-        readiness.taken.set(bit);
-        readiness.may_both(bit);
-        Some(Place { readiness, bit })
+    /// That of a connection that has no number yet.
+    pub(crate) fn new(readiness: Rc<Readiness, Heap>) -> Place {
+        Place {
+            readiness,
+            number: None,
+        }
     }
 
-    /// The number.
-    pub(crate) fn number(&self) -> usize
-        ensures { result ≤ 128 }
+    /// Gives the connection its number. Both a read and a write may find something to do there. It gets none
+    /// if there is no bit for it.
+    pub(crate) fn put(&mut self, number: usize) -> bool
+        ensures { IsTrue result → number_of self.new ≡ Some number }
     {
-        self.bit.trailing_zeros() as usize
+        let Some(bit) = bit_of(number) else {
+            return false;
+        };
+        self.readiness.may_both(bit);
+        self.number = Some(number);
+        true
+    }
+
+    /// The bit of its number, and none while it has no number.
+    fn bit(&self) -> u128 {
+        match self.number {
+            Some(number) => bit_of(number).unwrap_or(0),
+            None => 0,
+        }
     }
 
     /// Whether a read may find something.
     pub(crate) fn may_read(&self) -> bool {
-        self.readiness.may_read.has(self.bit)
+        self.readiness.may_read.has(self.bit())
     }
 
     /// Whether a write may find room.
     pub(crate) fn may_write(&self) -> bool {
-        self.readiness.may_write.has(self.bit)
+        self.readiness.may_write.has(self.bit())
     }
 
     /// Notes if a read said that it would wait. Nothing else that a read answers says that there is nothing
     /// more.
     pub(crate) fn note_read(&self, answer: &io::Result<usize>) {
         if would_wait(answer) {
-            self.readiness.may_read.clear(self.bit);
+            self.readiness.may_read.clear(self.bit());
         }
     }
 
@@ -133,7 +141,7 @@ impl Place {
     /// room.
     pub(crate) fn note_write(&self, answer: &io::Result<usize>) {
         if would_wait(answer) {
-            self.readiness.may_write.clear(self.bit);
+            self.readiness.may_write.clear(self.bit());
         }
     }
 }
@@ -146,12 +154,15 @@ fn would_wait(answer: &io::Result<usize>) -> bool {
     }
 }
 
+// A number that is given up is ready for nothing.
 impl Drop for Place {
     fn drop(self) {
-        self.readiness.taken.clear(self.bit);
+        let bit = self.bit();
+        self.readiness.may_read.clear(bit);
+        self.readiness.may_write.clear(bit);
         let Place {
             readiness: _readiness,
-            bit: _,
+            number: _,
         } = self;
     }
 }

@@ -1,29 +1,41 @@
 //! The stream of a connection.
-ghost use Rattle.std.specs.Prelude.{◌≡◌, ◌<◌, ℕ, List, IsSome};
+ghost use Rattle.std.specs.Prelude.{◌≡◌, ◌<◌, ℕ, List, IsSome, IsTrue, Some};
 ghost use Rattle.std.specs.Result.{result_unwrap_or};
 ghost use Rattle.dns_network.specs.Stream.{IfOctets, moved};
-ghost use Rattle.dns_service.specs.Socket.{HasEnded, received_by, sent_by, stream_of};
+ghost use Rattle.dns_service.specs.Places.{number_of};
+ghost use Rattle.dns_service.specs.Socket.{HasEnded, place_of, received_by, sent_by, stream_of};
 ghost use Rattle.dns_service.specs.SystemCalls.{IsEnd, moved_of};
 
 use crate::readiness::Place;
 use crate::system::StreamCalls;
 use dns_network::{Moved, Stream};
+use mio::{Registry, Token};
 use std::io::{self, ErrorKind};
 
 /// The connection of a peer.
 #[derive(Drop)]
 pub(crate) struct Socket<T> {
     stream: T,
-    // It comes after the stream, which is let go first: its number is free only when the stream is closed.
     place: Place,
 }
 
-impl<T> Socket<T> {
-    /// That of a stream whose events are reported by the number of this place.
+impl<T: StreamCalls> Socket<T> {
+    /// That of a stream that isn't watched yet.
     pub(crate) fn new(stream: T, place: Place) -> Socket<T>
         ensures { stream_of result ≡ stream }
     {
         Socket { stream, place }
+    }
+
+    /// Lets the events of the stream be reported by a token, and gives it this number. That can be refused.
+    pub(crate) fn watch(&mut self, registry: &Registry, token: Token, number: usize) -> bool
+        ensures same { T.calls (stream_of self.new) ≡ T.calls (stream_of self.old) }
+        ensures by { IsTrue result → number_of (place_of self.new) ≡ Some number }
+    {
+        match self.stream.watch(registry, token) {
+            Ok(()) => self.place.put(number),
+            Err(_) => false,
+        }
     }
 }
 

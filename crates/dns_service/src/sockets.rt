@@ -1,8 +1,7 @@
 //! The sockets of a server. None of their calls waits but `wait`, which waits until one of them is ready.
-ghost use Rattle.std.specs.Prelude.{◌≡◌, ◌∷◌, [], IfOk, IfSome};
+ghost use Rattle.std.specs.Prelude.{◌≡◌, ◌∷◌, [], IfOk};
 ghost use Rattle.dns_service.specs.DatagramSockets.{AreInOrder, HaveBrought, HaveCarried};
-ghost use Rattle.dns_service.specs.Socket.{stream_of};
-ghost use Rattle.dns_service.specs.Sockets.{HasAccepted, datagrams_of};
+ghost use Rattle.dns_service.specs.Sockets.{HasAccepted, IsWatched, datagrams_of};
 
 use crate::datagram_sockets::DatagramSockets;
 use crate::listeners::Listeners;
@@ -111,22 +110,13 @@ impl<C: DatagramCalls + Drop, L: Drop> Sockets<C, L> {
             }
         }
     }
-
-    /// The connection of a peer, made ready. There is none where the system refuses that, or no number is
-    /// free.
-    fn ready<T: StreamCalls + Drop>(&self, mut stream: T) -> Option<Socket<T>>
-        ensures { IfSome result (λ socket. T.calls (stream_of socket) ≡ T.calls stream) }
-    {
-        let place = Place::new(self.readiness.clone().ok()?)?;
-        let token = Token(CONNECTIONS + place.number());
-        stream.watch(self.poll.registry(), token).ok()?;
-        Some(Socket::new(stream, place))
-    }
 }
 
 impl<C: DatagramCalls + Drop, L: ListenerCalls<T> + Drop, T: StreamCalls + Drop> Network<Socket<T>>
     for Sockets<C, L> {
     ghost accepts = { HasAccepted L.ListenerCalls T.StreamCalls };
+
+    ghost watches = { IsWatched T.StreamCalls };
 
     ghost receives = { λ old got new.
         HaveBrought C.DatagramCalls (datagrams_of old) got (datagrams_of new) };
@@ -139,9 +129,18 @@ impl<C: DatagramCalls + Drop, L: ListenerCalls<T> + Drop, T: StreamCalls + Drop>
         HaveCarried C.DatagramCalls [] [] (datagrams_of old) (datagrams_of new) };
 
     fn accept(&mut self) -> Option<(Socket<T>, Peer)> {
+        let place = Place::new(self.readiness.clone().ok()?);
         let (stream, peer) = self.listeners.accept()?;
-        let socket = self.ready(stream)?;
-        Some((socket, peer))
+        Some((Socket::new(stream, place), peer))
+    }
+
+    fn watch(&mut self, number: usize, socket: Socket<T>) -> Option<Socket<T>> {
+        let token = Token(CONNECTIONS.checked_add(number)?);
+        let mut socket = socket;
+        if !socket.watch(self.poll.registry(), token, number) {
+            return None;
+        }
+        Some(socket)
     }
 
     fn receive(&mut self, into: &mut [u8]) -> Option<(usize, Peer)> {

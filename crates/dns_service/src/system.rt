@@ -72,7 +72,8 @@ pub(crate) trait StreamCalls {
     /// Hands octets over, and answers how many of them were taken, from the front.
     fn write(&mut self, octets: &[u8]) -> io::Result<usize>
         ensures few { IfOk result (λ count. count ≤ length octets.now) }
-        ensures called { HasCalled (calls self.old) (calls self.new) (Write (moved_of octets.now result) ∷ []) }
+        ensures called { HasCalled (calls self.old) (calls self.new)
+            (Write (moved_of octets.now result) ∷ []) }
         ensures known { is_some (calls self.new) ≡ is_some (calls self.old) };
 
     /// Lets events of the stream be reported by a token, and each write leave at once.

@@ -2,9 +2,9 @@ use Rattle.std.proofs.Common.{refl, inl, inr}
 use Rattle.dns_primary.specs.Keeps.{IsKept}
 use Rattle.dns_primary.specs.Machine.{Machine}
 use Rattle.dns_network.specs.Closing.{NoPlace}
-use Rattle.dns_network.specs.Delivery.{connections_of, served}
-use Rattle.dns_network.specs.Turn.{Asks, Connects, Refuses}
-use Rattle.dns_network.proofs.Leads.{by_one, and_on, closes, standing}
+use Rattle.dns_network.specs.Delivery.{served}
+use Rattle.dns_network.specs.Turn.{Asks, Closes, Connects, Refuses}
+use Rattle.dns_network.proofs.Leads.{by_one, and_on}
 use Rattle.dns_network.proofs.edge.Edge.accept.Goals as goal
 
 pub returns-in_default-clause-moments : goal.returns-in_default-clause-moments
@@ -31,15 +31,14 @@ pub returns-clause-moments : goal.returns-clause-moments
 returns-clause-moments g c =
     let allowed = λ (m : Machine) (kept : IsKept c.args.primary.now m). c.is_full_for.ensures.allowed c.if-is_full_for.false m kept in
     let old = served c.args.primary.now c.args.self.now c.args.network.now c.args.notes.now in
-    let new = served c.open_connection.new.primary c.open_connection.new.self c.accept.new.self c.open_connection.new.notes in
+    let new = served c.open_connection.new.primary c.open_connection.new.self c.open_connection.new.network c.open_connection.new.notes in
     elim c.open_connection.ensures.welcomed [
       | inl (effects, taken) ↦ by_one g.S.Stream g.N.Network g.L.Notes c.args.now (Connects c.in-Some.peer effects) old new
-          (record { stream = c.in-Some.stream; came = c.in-Some.ensures; allowed = allowed; taken = taken })
-      | inr (between, place, noted, number, effects, none, taken, lacks, told, gone, closed) ↦
-          (let mid = standing between c.accept.new.self noted place in
-          and_on g.S.Stream g.N.Network g.L.Notes c.args.now old mid new
-          (by_one g.S.Stream g.N.Network g.L.Notes c.args.now (Connects c.in-Some.peer effects) old mid
-          (record { stream = c.in-Some.stream; came = c.in-Some.ensures; allowed = allowed; taken = taken }))
-          (closes g.S.Stream g.N.Network g.L.Notes c.args.now number NoPlace between c.open_connection.new.primary c.accept.new.self noted noted c.open_connection.new.notes place (connections_of c.open_connection.new.self)
-          lacks refl (none, told) gone closed))
+          (record { stream = c.in-Some.stream; asked = c.accept.new.self; came = c.in-Some.ensures; allowed = allowed; taken = taken })
+      | inr (opened, effects, number, taken, lacks, closed) ↦
+          (and_on g.S.Stream g.N.Network g.L.Notes c.args.now old opened new
+          (by_one g.S.Stream g.N.Network g.L.Notes c.args.now (Connects c.in-Some.peer effects) old opened
+          (record { stream = c.in-Some.stream; asked = c.accept.new.self; came = c.in-Some.ensures; allowed = allowed; taken = taken }))
+          (by_one g.S.Stream g.N.Network g.L.Notes c.args.now (Closes number NoPlace) opened new
+          (record { gives = lacks; told = opened; noted = refl; closed = closed })))
     ]

@@ -1,68 +1,105 @@
-use Rattle.std.proofs.Common.{ℕ, Option, refl, sym, subst, inl, inr}
+use Rattle.std.proofs.Common.{ℕ, Option, None, refl, sym, subst, inl, inr, slice_set, ◌∙◌}
+use Rattle.std.proofs.lemmas.List.{set-set}
 use Rattle.dns_network.specs.Connections.{places_of}
 use Rattle.dns_network.specs.Delivery.{connections_of}
 use Rattle.dns_network.specs.Turn.{IsPlaced}
 use Rattle.dns_network.specs.Notes.{AreNoted, notes_of_opened}
-use Rattle.dns_network.proofs.Leads.{noted_then, nothing_came, still_past}
+use Rattle.dns_network.proofs.Leads.{none_past, none_there, noted_then, nothing_came, standing}
 use Rattle.dns_network.proofs.edge.Edge.open_connection.Goals as goal
 
 pub returns-in_default-clause-welcomed : goal.returns-in_default-clause-welcomed
 returns-in_default-clause-welcomed g c =
     let here = connections_of c.args.self.now in
+    let asked = c.args.network.now in
     inl (
       c.step-effects.result,
       record {
         told = λ m kept. c.step-effects.ensures.step m kept;
-        placed = subst (λ (accepted : Option ℕ). IsPlaced c.args.now c.args.stream accepted here here) (sym c.in_default.is) refl;
+        placed = subst (λ (accepted : Option ℕ). IsPlaced g.N.Network c.args.now c.args.stream accepted asked asked here here) (sym c.in_default.is) (refl, refl);
         noted = noted_then g.L.Notes c.step-effects.result.noted c.step-effects.result.accepted c.args.peer c.args.notes.now c.tell.new.notes c.note.new.self c.tell.ensures
             (subst (λ (accepted : Option ℕ). AreNoted g.L.Notes (notes_of_opened accepted c.args.peer) c.tell.new.notes c.note.new.self) (sym c.in_default.is)
             (c.note.new.self, c.note.ensures, refl));
       },
     )
 
-pub returns-in-Err-clause-welcomed : goal.returns-in-Err-clause-welcomed
-returns-in-Err-clause-welcomed g c =
+pub returns-in_default-watch-clause-welcomed : goal.returns-in_default-watch-clause-welcomed
+returns-in_default-watch-clause-welcomed g c =
     let here = connections_of c.args.self.now in
+    let left = slice_set here c.in-Some.number None in
+    let asked = c.args.network.now in
     let told = c.close.ensures.told in
     inr (
-      c.step-effects.new.self,
-      places_of c.insert.new.self,
-      c.note-2.new.self,
-      c.in-Some.number,
+      standing c.step-effects.new.self c.watch.new.self c.note-2.new.self left,
       c.step-effects.result,
-      told.0,
+      c.in-Some.number,
       record {
         told = λ m kept. c.step-effects.ensures.step m kept;
-        placed = subst (λ (accepted : Option ℕ). IsPlaced c.args.now c.args.stream accepted here (places_of c.insert.new.self)) (sym c.in-Some.is)
-            (inl (c.in-Err.ensures.back.1, c.in-Err.ensures.still));
+        placed = subst (λ (accepted : Option ℕ). IsPlaced g.N.Network c.args.now c.args.stream accepted asked c.watch.new.self here left) (sym c.in-Some.is)
+            (inl (c.in_default-watch.ensures, refl));
         noted = noted_then g.L.Notes c.step-effects.result.noted c.step-effects.result.accepted c.args.peer c.args.notes.now c.tell.new.notes c.note-2.new.self c.tell.ensures
             (subst (λ (accepted : Option ℕ). AreNoted g.L.Notes (notes_of_opened accepted c.args.peer) c.tell.new.notes c.note-2.new.self) (sym c.in-Some.is)
             (c.note-2.new.self, c.note-2.ensures, refl));
       },
-      still_past c.in-Some.number here (places_of c.insert.new.self) c.in-Err.ensures.still c.in-Err.ensures.back.1,
-      told.1,
-      c.close.ensures.gone,
-      c.close.ensures.noted,
+      none_there c.in-Some.number here,
+      record {
+        effects = told.0;
+        told = told.1;
+        gone = c.close.ensures.gone ∙ sym (set-set here c.in-Some.number None None);
+        network = refl;
+        noted = c.close.ensures.noted;
+      },
+    )
+
+pub returns-in-Err-clause-welcomed : goal.returns-in-Err-clause-welcomed
+returns-in-Err-clause-welcomed g c =
+    let here = connections_of c.args.self.now in
+    let asked = c.args.network.now in
+    let told = c.close-in-Err.ensures.told in
+    inr (
+      standing c.step-effects.new.self c.watch.new.self c.note-2.new.self (places_of c.insert.new.self),
+      c.step-effects.result,
+      c.in-Some.number,
+      record {
+        told = λ m kept. c.step-effects.ensures.step m kept;
+        placed = subst (λ (accepted : Option ℕ). IsPlaced g.N.Network c.args.now c.args.stream accepted asked c.watch.new.self here (places_of c.insert.new.self)) (sym c.in-Some.is)
+            (inr (c.in-Some-watch.watched, c.in-Some-watch.ensures, inl (c.in-Err.ensures.back.1, c.in-Err.ensures.still)));
+        noted = noted_then g.L.Notes c.step-effects.result.noted c.step-effects.result.accepted c.args.peer c.args.notes.now c.tell.new.notes c.note-2.new.self c.tell.ensures
+            (subst (λ (accepted : Option ℕ). AreNoted g.L.Notes (notes_of_opened accepted c.args.peer) c.tell.new.notes c.note-2.new.self) (sym c.in-Some.is)
+            (c.note-2.new.self, c.note-2.ensures, refl));
+      },
+      none_past c.in-Some.number here (places_of c.insert.new.self) c.in-Err.ensures.still c.in-Err.ensures.back.1,
+      record {
+        effects = told.0;
+        told = told.1;
+        gone = c.close-in-Err.ensures.gone;
+        network = refl;
+        noted = c.close-in-Err.ensures.noted;
+      },
     )
 
 pub returns-clause-welcomed : goal.returns-clause-welcomed
 returns-clause-welcomed g c =
     let here = connections_of c.args.self.now in
     let made = c.new-connection.result in
+    let asked = c.args.network.now in
     inl (
       c.step-effects.result,
       record {
         told = λ m kept. c.step-effects.ensures.step m kept;
-        placed = subst (λ (accepted : Option ℕ). IsPlaced c.args.now c.args.stream accepted here (places_of c.insert.new.self)) (sym c.in-Some.is)
+        placed = subst (λ (accepted : Option ℕ). IsPlaced g.N.Network c.args.now c.args.stream accepted asked c.watch.new.self here (places_of c.insert.new.self)) (sym c.in-Some.is)
             (inr (
-              c.in_default-insert.ensures.place,
-              (
-                made,
-                c.new-connection.ensures.stream,
-                c.new-connection.ensures.left,
-                nothing_came made c.new-connection.ensures.held c.new-connection.ensures.rest,
-                c.new-connection.ensures.used,
-                c.in_default-insert.ensures.put,
+              c.in-Some-watch.watched,
+              c.in-Some-watch.ensures,
+              inr (
+                c.in_default-insert.ensures.place,
+                (
+                  made,
+                  c.new-connection.ensures.stream,
+                  c.new-connection.ensures.left,
+                  nothing_came made c.new-connection.ensures.held c.new-connection.ensures.rest,
+                  c.new-connection.ensures.used,
+                  c.in_default-insert.ensures.put,
+                ),
               ),
             ));
         noted = noted_then g.L.Notes c.step-effects.result.noted c.step-effects.result.accepted c.args.peer c.args.notes.now c.tell.new.notes c.note-2.new.self c.tell.ensures

@@ -1,11 +1,12 @@
-use Rattle.std.proofs.Common.{refl}
+use Rattle.std.proofs.Common.{ap, refl}
+use Rattle.dns_service.proofs.Accepted.{none_accepted}
 use Rattle.dns_service.proofs.sockets.SocketsNetworkSocket.accept.Goals as goal
 
-pub returns-in_err-stream : goal.returns-in_err-stream
-returns-in_err-stream g c = (refl, rw c.from_residual.ensures (_, c.accept.ensures))
+pub returns-in_err-ok : goal.returns-in_err-ok
+returns-in_err-ok g c = (refl, rw c.from_residual.ensures (none_accepted g.L.ListenerCalls _))
 
-pub returns-in_err-socket : goal.returns-in_err-socket
-returns-in_err-socket g c = (refl, rw c.from_residual-in_err-socket.ensures (_, c.accept.ensures))
+pub returns-in_err-stream : goal.returns-in_err-stream
+returns-in_err-stream g c = (refl, rw c.from_residual-in_err-stream.ensures c.in_err-stream.ensures)
 
 pub returns : goal.returns
-returns g c = (refl, (_, c.in_ok-socket.ensures, c.in_ok-stream.ensures))
+returns g c = (refl, (_, ap g.T.StreamCalls.calls c.new.ensures, c.in_ok-stream.ensures))
