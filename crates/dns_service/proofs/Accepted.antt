@@ -1,6 +1,6 @@
 -- The connections that came to listeners, each on its address.
 use Rattle.std.proofs.Common.{◌≡◌, ℕ, ◌<◌, Bool, cond, List, [], ◌∷◌, ◌++◌, length, Option, Some, None, Result, Ok, Err, refl, ap, sym, subst, ◌∙◌, slice_set, get_or}
-use Rattle.std.specs.Prelude.{MatchOption, OkIff, slice_get}
+use Rattle.std.specs.Prelude.{MatchOption, OkIff}
 use Rattle.std.specs.Result.{result_ok}
 use Rattle.std.specs.List.{AllZip}
 use Rattle.std.specs.declared.net.socket_addr.SocketAddr.{SocketAddr}

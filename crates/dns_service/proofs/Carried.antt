@@ -1,5 +1,5 @@
 -- What a socket carried whose datagrams are read ahead and held back.
-use Rattle.std.proofs.Common.{◌≡◌, ◌⊎◌, inl, inr, ℕ, List, [], ◌∷◌, ◌++◌, Option, Some, None, refl, ap, sym, subst, ◌∙◌, append-nil, append_assoc}
+use Rattle.std.proofs.Common.{◌≡◌, inl, inr, List, [], ◌∷◌, ◌++◌, Option, Some, None, ap, sym, subst, ◌∙◌, append-nil, append_assoc}
 use Rattle.dns_network.specs.declared.datagram_socket.DatagramSocket as socket
 use Rattle.dns_network.specs.declared.datagrams.Datagrams.{Datagrams}
 use Rattle.dns_network.specs.Datagrams.{AllHaveGone, AreRead, Datagram, HaveCome, HaveGone, IsHandedOver, IsLeaving, NoneHasCome, arrived_of, leaving_of, socket_of}

@@ -1,7 +1,6 @@
 -- Datagrams that pass a socket, in one call after the other.
-use Rattle.std.proofs.Common.{◌≡◌, ℕ, Bool, List, [], ◌∷◌, ◌++◌, Option, Some, None, refl, ap, sym, subst, ◌∙◌}
+use Rattle.std.proofs.Common.{◌≡◌, ℕ, Bool, List, [], ◌∷◌, ◌++◌, Some, None, refl, ap, sym, subst, ◌∙◌}
 use Rattle.std.specs.List.{AllZip}
-use Rattle.dns_configuration.specs.Calls.{HasCalled}
 use Rattle.dns_configuration.proofs.Called.{called_on, nothing_called}
 use Rattle.dns_network.specs.Datagrams.{Datagram}
 use Rattle.dns_service.specs.SystemCalls.{Addressed, DatagramCall, RecvFrom, SendTo, received_in, sent_in}

@@ -1,6 +1,5 @@
 //! A socket of datagrams on an address of the server.
 ghost use Rattle.std.specs.Prelude.{◌≡◌, ◌≤◌, ◌∷◌, [], length, take, IfOk, OnErr};
-ghost use Rattle.dns_network.specs.Datagrams.{Datagram};
 ghost use Rattle.dns_service.specs.Udp.{HasReceived, HasSent, HavePassed, by_ipv6, local_of};
 
 use crate::peers::{address_of, peer_of};

@@ -1,4 +1,4 @@
-use Rattle.std.proofs.Common.{◌∙◌, sym, ap}
+use Rattle.std.proofs.Common.{◌∙◌, ap}
 use Rattle.dns_service.specs.Udp.{local_of}
 use Rattle.dns_service.proofs.Brought.{one_more, order_same}
 use Rattle.dns_service.proofs.datagram_sockets.DatagramSockets.add.Goals as goal
