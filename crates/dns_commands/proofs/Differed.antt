@@ -7,7 +7,7 @@ use Rattle.std.proofs.lemmas.List.Concat.{flat_map-append}
 use Rattle.std.proofs.lemmas.List.Elements.{filter-append}
 use Rattle.dns_records.specs.Record.{Record}
 use Rattle.dns_masterfile.specs.Printed.{printed_record}
-use Rattle.dns_commands.specs.Frame.{ended}
+use Rattle.dns_commands.specs.Frame.{run_end}
 use Rattle.dns_commands.specs.Compare.{signed_lines}
 use Rattle.std.specs.String.{string_bytes}
 use Rattle.std.specs.Io.KnownBytes.{Appends}
@@ -74,7 +74,7 @@ diffing_ends g calls own from to (Err fault) failed is = inr (failed, is)
 
 -- ---- how a run ends
 -- A writer failed or memory was refused.
-pub diffing_failed : {D : Type 0} (g : Ghosts D) (calls : List (DeviceCall D)) (own : ZoneSettings) (from : ℕ) (to : Option ℕ) (as_update explain : Bool) (out out_after err err_after : Option (List ℕ)) → IsDiffTried g calls from to own → DiffingEnds g from to as_update own (ended calls explain out out_after err err_after 3)
+pub diffing_failed : {D : Type 0} (g : Ghosts D) (calls : List (DeviceCall D)) (own : ZoneSettings) (from : ℕ) (to : Option ℕ) (as_update explain : Bool) (out out_after err err_after : Option (List ℕ)) → IsDiffTried g calls from to own → DiffingEnds g from to as_update own (run_end calls explain out out_after err err_after 3)
 diffing_failed g calls own from to as_update explain out out_after err err_after called = record {
   done = λ e. absurd (omega (arith, e));
   refused = λ e. absurd (omega (arith, e));
@@ -88,7 +88,7 @@ tried_in_vain g calls own from to fault (inl why) = inr (fault, why)
 tried_in_vain g calls own from to fault (inr is) = inl (Err fault, is.1)
 
 -- The device shows no version.
-pub not_diffed : {D : Type 0} (g : Ghosts D) (calls : List (DeviceCall D)) (own : ZoneSettings) (from : ℕ) (to : Option ℕ) (as_update explain : Bool) (out err err_after : Option (List ℕ)) (path : List ℕ) (fault : DeviceFault) → path ≡ string_bytes own.device → HasNoDiff g calls own from to fault → status_of fault ≡ 1 → Appends err err_after (line (device_text path fault explain)) → DiffingEnds g from to as_update own (ended calls explain out out err err_after 1)
+pub not_diffed : {D : Type 0} (g : Ghosts D) (calls : List (DeviceCall D)) (own : ZoneSettings) (from : ℕ) (to : Option ℕ) (as_update explain : Bool) (out err err_after : Option (List ℕ)) (path : List ℕ) (fault : DeviceFault) → path ≡ string_bytes own.device → HasNoDiff g calls own from to fault → status_of fault ≡ 1 → Appends err err_after (line (device_text path fault explain)) → DiffingEnds g from to as_update own (run_end calls explain out out err err_after 1)
 not_diffed g calls own from to as_update explain out err err_after path fault p (inr is) status said = absurd (omega (arith, is.0, status))
 not_diffed g calls own from to as_update explain out err err_after path fault p (inl why) status said = record {
   done = λ e. absurd (omega (arith, e));
@@ -98,7 +98,7 @@ not_diffed g calls own from to as_update explain out err err_after path fault p 
 }
 
 -- No version has the serial.
-pub missing : {D : Type 0} (g : Ghosts D) (calls : List (DeviceCall D)) (own : ZoneSettings) (from : ℕ) (to : Option ℕ) (as_update explain : Bool) (out err err_after : Option (List ℕ)) (serial : ℕ) → HasDiff g calls own from to (Err serial) → Appends err err_after (line (unfound_text serial explain)) → DiffingEnds g from to as_update own (ended calls explain out out err err_after 1)
+pub missing : {D : Type 0} (g : Ghosts D) (calls : List (DeviceCall D)) (own : ZoneSettings) (from : ℕ) (to : Option ℕ) (as_update explain : Bool) (out err err_after : Option (List ℕ)) (serial : ℕ) → HasDiff g calls own from to (Err serial) → Appends err err_after (line (unfound_text serial explain)) → DiffingEnds g from to as_update own (run_end calls explain out out err err_after 1)
 missing g calls own from to as_update explain out err err_after serial is said = record {
   done = λ e. absurd (omega (arith, e));
   refused = λ _. (unfound_text serial explain, inr (serial, is, refl), said, Keeps-refl out);
@@ -107,7 +107,7 @@ missing g calls own from to as_update explain out err err_after serial is said =
 }
 
 -- The change was printed.
-pub diffed : {D : Type 0} (g : Ghosts D) (calls : List (DeviceCall D)) (own : ZoneSettings) (from : ℕ) (to : Option ℕ) (as_update explain : Bool) (out out_after err : Option (List ℕ)) (change : Option Change) → HasDiff g calls own from to (Ok change) → Appends out out_after (diff_text as_update own change) → DiffingEnds g from to as_update own (ended calls explain out out_after err err 0)
+pub diffed : {D : Type 0} (g : Ghosts D) (calls : List (DeviceCall D)) (own : ZoneSettings) (from : ℕ) (to : Option ℕ) (as_update explain : Bool) (out out_after err : Option (List ℕ)) (change : Option Change) → HasDiff g calls own from to (Ok change) → Appends out out_after (diff_text as_update own change) → DiffingEnds g from to as_update own (run_end calls explain out out_after err err 0)
 diffed g calls own from to as_update explain out out_after err change is said = record {
   done = λ _. (change, is, said, Keeps-refl err);
   refused = λ e. absurd (omega (arith, e));

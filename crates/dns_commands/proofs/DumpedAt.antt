@@ -30,7 +30,7 @@ use Rattle.dns_devices.specs.declared.device_faults.DeviceFault.TheVariants.{Out
 use Rattle.dns_devices.specs.DeviceFaults.{device_text, status_of}
 use Rattle.dns_devices.specs.DeviceCalls.{DeviceCall}
 use Rattle.dns_devices.specs.Stores.{own_shape}
-use Rattle.dns_commands.specs.Frame.{ended}
+use Rattle.dns_commands.specs.Frame.{run_end}
 use Rattle.dns_commands.specs.DumpAt.{HasNoAnswer, HasNoVersion, IsAnswerFor, HasAnswer, IsChosenFrom, IsIncremental, IsPickTried, IsPicked, PickingEnds, unfound_text}
 use Rattle.dns_commands.specs.History.{version_in}
 use Rattle.dns_commands.proofs.Historied.{between, led_after, led_length, left_after}
@@ -152,7 +152,7 @@ picking_ends g calls own serial (Err fault) failed is = inr (failed, is)
 
 -- ---- how a run ends
 -- A writer failed or memory was refused.
-pub picking_failed : {D : Type 0} (g : Ghosts D) (calls : List (DeviceCall D)) (own : ZoneSettings) (serial : ℕ) (explain : Bool) (out out_after err err_after : Option (List ℕ)) → IsPickTried g calls serial own → PickingEnds g serial own (ended calls explain out out_after err err_after 3)
+pub picking_failed : {D : Type 0} (g : Ghosts D) (calls : List (DeviceCall D)) (own : ZoneSettings) (serial : ℕ) (explain : Bool) (out out_after err err_after : Option (List ℕ)) → IsPickTried g calls serial own → PickingEnds g serial own (run_end calls explain out out_after err err_after 3)
 picking_failed g calls own serial explain out out_after err err_after called = record {
   done = λ e. absurd (omega (arith, e));
   refused = λ e. absurd (omega (arith, e));
@@ -166,7 +166,7 @@ tried_in_vain g calls own serial fault (inl why) = inr (fault, why)
 tried_in_vain g calls own serial fault (inr is) = inl (Err fault, is.1)
 
 -- The device shows no version.
-pub not_picked : {D : Type 0} (g : Ghosts D) (calls : List (DeviceCall D)) (own : ZoneSettings) (serial : ℕ) (explain : Bool) (out err err_after : Option (List ℕ)) (path : List ℕ) (fault : DeviceFault) → path ≡ string_bytes own.device → HasNoAnswer g calls own serial fault → status_of fault ≡ 1 → Appends err err_after (line (device_text path fault explain)) → PickingEnds g serial own (ended calls explain out out err err_after 1)
+pub not_picked : {D : Type 0} (g : Ghosts D) (calls : List (DeviceCall D)) (own : ZoneSettings) (serial : ℕ) (explain : Bool) (out err err_after : Option (List ℕ)) (path : List ℕ) (fault : DeviceFault) → path ≡ string_bytes own.device → HasNoAnswer g calls own serial fault → status_of fault ≡ 1 → Appends err err_after (line (device_text path fault explain)) → PickingEnds g serial own (run_end calls explain out out err err_after 1)
 not_picked g calls own serial explain out err err_after path fault p (inr is) status said = absurd (omega (arith, is.0, status))
 not_picked g calls own serial explain out err err_after path fault p (inl why) status said = record {
   done = λ e. absurd (omega (arith, e));
@@ -176,7 +176,7 @@ not_picked g calls own serial explain out err err_after path fault p (inl why) s
 }
 
 -- No version has the serial.
-pub unfound : {D : Type 0} (g : Ghosts D) (calls : List (DeviceCall D)) (own : ZoneSettings) (serial : ℕ) (explain : Bool) (out err err_after : Option (List ℕ)) → HasAnswer g calls own serial None → Appends err err_after (line (unfound_text serial explain)) → PickingEnds g serial own (ended calls explain out out err err_after 1)
+pub unfound : {D : Type 0} (g : Ghosts D) (calls : List (DeviceCall D)) (own : ZoneSettings) (serial : ℕ) (explain : Bool) (out err err_after : Option (List ℕ)) → HasAnswer g calls own serial None → Appends err err_after (line (unfound_text serial explain)) → PickingEnds g serial own (run_end calls explain out out err err_after 1)
 unfound g calls own serial explain out err err_after is said = record {
   done = λ e. absurd (omega (arith, e));
   refused = λ _. (unfound_text serial explain, inr (is, refl), said, Keeps-refl out);
@@ -189,7 +189,7 @@ unfound_told P (Ok status) A told refused = subst P (sym told.0) (refused told.1
 unfound_told P (Err e) A told refused = tt
 
 -- The version was printed.
-pub picked : {D : Type 0} (g : Ghosts D) (calls : List (DeviceCall D)) (own : ZoneSettings) (serial : ℕ) (explain : Bool) (out out_after err : Option (List ℕ)) (zone : Zone) → HasAnswer g calls own serial (Some zone) → Appends out out_after (printed_zone zone.records) → PickingEnds g serial own (ended calls explain out out_after err err 0)
+pub picked : {D : Type 0} (g : Ghosts D) (calls : List (DeviceCall D)) (own : ZoneSettings) (serial : ℕ) (explain : Bool) (out out_after err : Option (List ℕ)) (zone : Zone) → HasAnswer g calls own serial (Some zone) → Appends out out_after (printed_zone zone.records) → PickingEnds g serial own (run_end calls explain out out_after err err 0)
 picked g calls own serial explain out out_after err zone is said = record {
   done = λ _. (zone, is, said, Keeps-refl err);
   refused = λ e. absurd (omega (arith, e));

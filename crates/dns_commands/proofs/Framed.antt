@@ -17,7 +17,7 @@ use Rattle.dns_configuration.specs.Files.{HoldsConfiguration}
 use Rattle.dns_configuration.specs.Named.{IsNoZoneName, zone_configured}
 use Rattle.dns_configuration.proofs.Called.{ended_as}
 use Rattle.dns_configuration.proofs.Told.{fault_told}
-use Rattle.dns_commands.specs.Frame.{Ended, EndsForNamed, ended}
+use Rattle.dns_commands.specs.Frame.{Ended, EndsForNamed, run_end}
 
 -- The origin is no name.
 pub no_name : (config : File) (origin : List ℕ) (c : Configuration) (fault : Fault) → HoldsConfiguration (option_copied config.octets) (Ok c) → ((fault ≡ OutOfMemory) ⊎ ((fault ≡ BadOrigin) × ((e : NameError) × (name_of_text [] origin ≡ Err e)))) → (is_memory fault ≡ true) ⊎ IsNoZoneName config origin (fault_text origin fault)
@@ -56,12 +56,12 @@ same_at (x ∷ xs) zero d e inside = refl
 same_at (x ∷ xs) (suc n) d e inside = same_at xs n d e (omega (arith, inside))
 
 -- No zone was named, which was told.
-pub unnamed_told : {C E : Type 0} (P : ZoneSettings → Ended C → Type 0) (config : File) (origin what : List ℕ) (fault : Fault) (explain : Bool) (out err err_after : Option (List ℕ)) (r : Result ℕ E) → ((is_memory fault ≡ true) ⊎ IsNoZoneName config origin (fault_text what fault)) → IfOk r (λ status. IsTold what fault err err_after status) → EndsForNamed config origin P (ended [] explain out out err err_after (result_unwrap_or r 3))
+pub unnamed_told : {C E : Type 0} (P : ZoneSettings → Ended C → Type 0) (config : File) (origin what : List ℕ) (fault : Fault) (explain : Bool) (out err err_after : Option (List ℕ)) (r : Result ℕ E) → ((is_memory fault ≡ true) ⊎ IsNoZoneName config origin (fault_text what fault)) → IfOk r (λ status. IsTold what fault err err_after status) → EndsForNamed config origin P (run_end [] explain out out err err_after (result_unwrap_or r 3))
 unnamed_told P config origin what fault explain out err err_after r why told =
     ended_as ends r failed (fault_told ends what fault err err_after r told failed (λ is said. inr (refl, Keeps-refl out, inr (refl, fault_text what fault, unless is why, said))))
   where
     ends : ℕ → Type 0
-    ends status = EndsForNamed config origin P (ended [] explain out out err err_after status)
+    ends status = EndsForNamed config origin P (run_end [] explain out out err err_after status)
 
     failed : ends 3
     failed = inr (refl, Keeps-refl out, inl refl)

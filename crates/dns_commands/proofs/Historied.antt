@@ -33,7 +33,7 @@ use Rattle.dns_devices.specs.DeviceCalls as call
 use Rattle.dns_devices.specs.DeviceCalls.{DeviceCall}
 use Rattle.dns_devices.specs.Stores.{IsNotShown, IsStoreOpened, own_shape}
 use Rattle.dns_devices.proofs.Closed.{leaves_kept}
-use Rattle.dns_commands.specs.Frame.{ended}
+use Rattle.dns_commands.specs.Frame.{run_end}
 use Rattle.dns_commands.specs.Compare.{change_lines}
 use Rattle.dns_commands.specs.History.{History, IsHistoryOf, IsListTried, ShowsHistory, IsSeenAs, ListingEnds, changes_after, history_of, history_text, step_line, step_text, steps_text, version_in}
 
@@ -192,7 +192,7 @@ seen_as {D} g opened own store newest after path P is after_is path_is holds = r
 }
 
 -- A writer failed or memory was refused.
-pub listing_failed : {D : Type 0} (g : Ghosts D) (calls : List (DeviceCall D)) (own : ZoneSettings) (with_records explain : Bool) (out out_after err err_after : Option (List ℕ)) → IsListTried g calls own → ListingEnds g with_records own (ended calls explain out out_after err err_after 3)
+pub listing_failed : {D : Type 0} (g : Ghosts D) (calls : List (DeviceCall D)) (own : ZoneSettings) (with_records explain : Bool) (out out_after err err_after : Option (List ℕ)) → IsListTried g calls own → ListingEnds g with_records own (run_end calls explain out out_after err err_after 3)
 listing_failed g calls own with_records explain out out_after err err_after called = record {
   done = λ e. absurd (omega (arith, e));
   refused = λ e. absurd (omega (arith, e));
@@ -205,7 +205,7 @@ written_in_vain P (Ok status) is failed = absurd (cc is)
 written_in_vain P (Err e) is failed = failed
 
 -- The device shows no version.
-pub not_listed : {D : Type 0} (g : Ghosts D) (calls : List (DeviceCall D)) (own : ZoneSettings) (with_records explain : Bool) (out err err_after : Option (List ℕ)) (path : List ℕ) (fault : DeviceFault) → path ≡ string_bytes own.device → IsNotShown g calls own fault → status_of fault ≡ 1 → Appends err err_after (line (device_text path fault explain)) → ListingEnds g with_records own (ended calls explain out out err err_after 1)
+pub not_listed : {D : Type 0} (g : Ghosts D) (calls : List (DeviceCall D)) (own : ZoneSettings) (with_records explain : Bool) (out err err_after : Option (List ℕ)) (path : List ℕ) (fault : DeviceFault) → path ≡ string_bytes own.device → IsNotShown g calls own fault → status_of fault ≡ 1 → Appends err err_after (line (device_text path fault explain)) → ListingEnds g with_records own (run_end calls explain out out err err_after 1)
 not_listed g calls own with_records explain out err err_after path fault p why status said = record {
   done = λ e. absurd (omega (arith, e));
   refused = λ _. (fault, why, status, subst (λ (t : List ℕ). Appends err err_after (line (device_text t fault explain))) p said, Keeps-refl out);
@@ -214,7 +214,7 @@ not_listed g calls own with_records explain out err err_after path fault p why s
 }
 
 -- Its versions were printed.
-pub listed : {D : Type 0} (g : Ghosts D) (calls : List (DeviceCall D)) (own : ZoneSettings) (with_records explain : Bool) (out out_after err : Option (List ℕ)) (h : History) → ShowsHistory g calls own h → Appends out out_after (history_text with_records h) → ListingEnds g with_records own (ended calls explain out out_after err err 0)
+pub listed : {D : Type 0} (g : Ghosts D) (calls : List (DeviceCall D)) (own : ZoneSettings) (with_records explain : Bool) (out out_after err : Option (List ℕ)) (h : History) → ShowsHistory g calls own h → Appends out out_after (history_text with_records h) → ListingEnds g with_records own (run_end calls explain out out_after err err 0)
 listed g calls own with_records explain out out_after err h is said = record {
   done = λ _. (h, is, said, Keeps-refl err);
   refused = λ e. absurd (omega (arith, e));

@@ -19,9 +19,9 @@ pub record Ended (C : Type 0) : Type 0 where
   pub err_after : Option (List ℕ)
   pub status : ℕ
 
-abbrev pub ended : {C : Type 0} → List C → Bool → Option (List ℕ) → Option (List ℕ) → Option (List ℕ)
+abbrev pub run_end : {C : Type 0} → List C → Bool → Option (List ℕ) → Option (List ℕ) → Option (List ℕ)
     → Option (List ℕ) → ℕ → Ended C
-ended calls explain out out_after err err_after status = record {
+run_end calls explain out out_after err err_after status = record {
   calls = calls;
   explain = explain;
   out = out;
@@ -35,7 +35,7 @@ ended calls explain out out_after err err_after status = record {
 abbrev pub RunEnds : {C F W E : Type 0} → (F → Option (List C)) → (W → Option (List ℕ))
     → (E → Option (List ℕ)) → Run F W E → Run F W E → ℕ → (Ended C → Type 0) → Type 0
 RunEnds called printed reported before after status P =
-    Calls (called before.devices) (called after.devices) (λ calls. P (ended calls before.explain
+    Calls (called before.devices) (called after.devices) (λ calls. P (run_end calls before.explain
     (printed before.out) (printed after.out) (reported before.err) (reported after.err) status))
 
 -- No zone is named, since the configuration is refused, or the text: that is reported with status 1, unless

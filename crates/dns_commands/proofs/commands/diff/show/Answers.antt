@@ -1,7 +1,7 @@
 use Rattle.std.proofs.Common.{ℕ}
 use Rattle.dns_configuration.proofs.Called.{ended_as}
 use Rattle.dns_devices.proofs.Told.{device_told}
-use Rattle.dns_commands.specs.Frame.{ended}
+use Rattle.dns_commands.specs.Frame.{run_end}
 use Rattle.dns_commands.specs.Diff.{DiffingEnds}
 use Rattle.dns_commands.proofs.Differed.{diffed, diffing_failed, not_diffed, tried_in_vain}
 use Rattle.dns_commands.proofs.commands.diff.show.Goals as goal
@@ -17,7 +17,7 @@ returns-in-Err g c =
     let out = g.W.Write.contents c.args.run.now.out in
     let err = g.E.Write.contents c.args.run.now.err in
     let err_after = g.E.Write.contents c.tell_device.new.err in
-    let ends : ℕ → Type 0 = λ status. DiffingEnds g.D.Sectors from to c.args.as_update own (ended calls c.args.run.now.explain out out err err_after status) in
+    let ends : ℕ → Type 0 = λ status. DiffingEnds g.D.Sectors from to c.args.as_update own (run_end calls c.args.run.now.explain out out err err_after status) in
     let failed = diffing_failed g.D.Sectors calls own from to c.args.as_update c.args.run.now.explain out out err err_after (tried_in_vain g.D.Sectors calls own from to fault why) in (
       calls,
       c.in-Err.ensures.1,

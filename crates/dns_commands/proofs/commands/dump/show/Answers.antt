@@ -1,7 +1,7 @@
 use Rattle.std.proofs.Common.{ℕ, inr}
 use Rattle.dns_configuration.proofs.Called.{ended_as}
 use Rattle.dns_devices.proofs.Told.{device_told}
-use Rattle.dns_commands.specs.Frame.{ended}
+use Rattle.dns_commands.specs.Frame.{run_end}
 use Rattle.dns_commands.specs.Dump.{ShowingEnds}
 use Rattle.dns_commands.proofs.Shown.{not_shown, showing_failed}
 use Rattle.dns_commands.proofs.commands.dump.show.Goals as goal
@@ -15,7 +15,7 @@ returns-in-Err g c =
     let out = g.W.Write.contents c.args.run.now.out in
     let err = g.E.Write.contents c.args.run.now.err in
     let err_after = g.E.Write.contents c.tell_device.new.err in
-    let ends : ℕ → Type 0 = λ status. ShowingEnds g.D.Sectors own (ended calls c.args.run.now.explain out out err err_after status) in
+    let ends : ℕ → Type 0 = λ status. ShowingEnds g.D.Sectors own (run_end calls c.args.run.now.explain out out err err_after status) in
     let failed = showing_failed g.D.Sectors calls own c.args.run.now.explain out out err err_after (inr (fault, why)) in (
       calls,
       c.in-Err.ensures.1,

@@ -3,7 +3,7 @@ use Rattle.std.specs.Io.KnownBytes.{Appends}
 use Rattle.dns_configuration.specs.Faults.{line}
 use Rattle.dns_configuration.proofs.Called.{ended_as}
 use Rattle.dns_devices.proofs.Told.{device_told}
-use Rattle.dns_commands.specs.Frame.{ended}
+use Rattle.dns_commands.specs.Frame.{run_end}
 use Rattle.dns_commands.specs.DumpAt.{PickingEnds, unfound_text}
 use Rattle.dns_commands.proofs.DumpedAt.{not_picked, picked, picking_failed, tried_in_vain, unfound, unfound_told}
 use Rattle.dns_commands.proofs.commands.dump_at.show_at.Goals as goal
@@ -18,7 +18,7 @@ returns-in-Err g c =
     let out = g.W.Write.contents c.args.run.now.out in
     let err = g.E.Write.contents c.args.run.now.err in
     let err_after = g.E.Write.contents c.tell_device.new.err in
-    let ends : ℕ → Type 0 = λ status. PickingEnds g.D.Sectors serial own (ended calls c.args.run.now.explain out out err err_after status) in
+    let ends : ℕ → Type 0 = λ status. PickingEnds g.D.Sectors serial own (run_end calls c.args.run.now.explain out out err err_after status) in
     let failed = picking_failed g.D.Sectors calls own serial c.args.run.now.explain out out err err_after (tried_in_vain g.D.Sectors calls own serial fault why) in (
       calls,
       c.in-Err.ensures.1,
@@ -37,7 +37,7 @@ returns-in-Ok-None g c =
     let out = g.W.Write.contents c.args.run.now.out in
     let err = g.E.Write.contents c.args.run.now.err in
     let err_after = g.E.Write.contents c.tell_unfound.new.err in
-    let ends : ℕ → Type 0 = λ status. PickingEnds g.D.Sectors serial own (ended calls c.args.run.now.explain out out err err_after status) in
+    let ends : ℕ → Type 0 = λ status. PickingEnds g.D.Sectors serial own (run_end calls c.args.run.now.explain out out err err_after status) in
     let failed = picking_failed g.D.Sectors calls own serial c.args.run.now.explain out out err err_after (inl (Ok None, is)) in (
       calls,
       found.1,

@@ -5,7 +5,7 @@ use Rattle.dns_configuration.proofs.Called.{called_on, ended_as}
 use Rattle.dns_devices.specs.DeviceCalls.{Closed}
 use Rattle.dns_devices.specs.Stores.{own_shape}
 use Rattle.dns_devices.proofs.Told.{device_told}
-use Rattle.dns_commands.specs.Frame.{ended}
+use Rattle.dns_commands.specs.Frame.{run_end}
 use Rattle.dns_commands.specs.History.{IsHistoryOf, ShowsHistory, ListingEnds, history_of}
 use Rattle.dns_commands.proofs.Historied.{history_kept, listed, listing_failed, not_listed, rest_of, seen_as, written_in_vain}
 use Rattle.dns_commands.proofs.commands.history.list.Goals as goal
@@ -20,7 +20,7 @@ returns-in-Err g c =
     let out = g.W.Write.contents c.args.run.now.out in
     let err = g.E.Write.contents c.args.run.now.err in
     let err_after = g.E.Write.contents c.tell_device.new.err in
-    let ends : ℕ → Type 0 = λ status. ListingEnds g.D.Sectors w own (ended calls c.args.run.now.explain out out err err_after status) in
+    let ends : ℕ → Type 0 = λ status. ListingEnds g.D.Sectors w own (run_end calls c.args.run.now.explain out out err err_after status) in
     let failed = listing_failed g.D.Sectors calls own w c.args.run.now.explain out out err err_after (inr (fault, why)) in (
       calls,
       c.in-Err.ensures.1,
@@ -71,5 +71,5 @@ returns-in_err-printed-in-Ok g c =
     let out = g.W.Write.contents c.args.run.now.out in
     let out_after = g.W.Write.contents c.print_history-printed.new.out in
     let err = g.E.Write.contents c.args.run.now.err in
-    let ends : ℕ → Type 0 = λ status. ListingEnds g.D.Sectors w own (ended calls c.args.run.now.explain out out_after err err status) in
+    let ends : ℕ → Type 0 = λ status. ListingEnds g.D.Sectors w own (run_end calls c.args.run.now.explain out out_after err err status) in
     (calls, called_on _ _ _ opened (Closed path after ∷ []) c.in-Ok.ensures.1 c.close.ensures, written_in_vain ends c.from_residual.result c.from_residual.ensures.0 (listing_failed g.D.Sectors calls own w c.args.run.now.explain out out_after err err (inl (h, seen))))

@@ -9,7 +9,7 @@ use Rattle.dns_configuration.proofs.Told.{fault_told}
 use Rattle.dns_devices.specs.DeviceFaults.{device_text}
 use Rattle.dns_configuration.proofs.Called.{called_on, ended_as, no_calls}
 use Rattle.dns_devices.proofs.Told.{device_told}
-use Rattle.dns_commands.specs.Frame.{ended}
+use Rattle.dns_commands.specs.Frame.{run_end}
 use Rattle.dns_commands.specs.Init.{InitEnds, AreChosen, IsGiven, IsNotChosen}
 use Rattle.dns_commands.proofs.Made.{files_refused, init_failed, init_made, init_refused, word_refused, zip_length}
 use Rattle.dns_commands.proofs.commands.init.init_all.Goals as goal
@@ -23,7 +23,7 @@ returns-in-Err g c =
     let out = g.W.Write.contents c.args.run.now.out in
     let err = g.E.Write.contents c.args.run.now.err in
     let err_after = g.E.Write.contents c.tell.new.err in
-    let ends : ℕ → Type 0 = λ status. InitEnds g.D.Sectors config origin files (ended [] c.args.run.now.explain out out err err_after status) in
+    let ends : ℕ → Type 0 = λ status. InitEnds g.D.Sectors config origin files (run_end [] c.args.run.now.explain out out err err_after status) in
     let failed = init_failed g.D.Sectors [] config origin files c.args.run.now.explain out out err err_after (inl refl) in
     no_calls _ _ (ended_as ends c.tell.result failed (fault_told ends config.path.now fault err err_after c.tell.result c.tell.ensures failed
     (λ is said. init_refused g.D.Sectors [] config origin files c.args.run.now.explain out err err_after (fault_text config.path.now fault) (inl (config.path.now, fault, inl (refl, c.in-Err.ensures.held), refl, refl)) (inl refl) said)))
@@ -39,7 +39,7 @@ returns-in-Err-chosen g c =
     let out = g.W.Write.contents c.args.run.now.out in
     let err = g.E.Write.contents c.args.run.now.err in
     let err_after = g.E.Write.contents c.tell-in-Err-chosen.new.err in
-    let ends : ℕ → Type 0 = λ status. InitEnds g.D.Sectors config origin files (ended [] c.args.run.now.explain out out err err_after status) in
+    let ends : ℕ → Type 0 = λ status. InitEnds g.D.Sectors config origin files (run_end [] c.args.run.now.explain out out err err_after status) in
     let failed = init_failed g.D.Sectors [] config origin files c.args.run.now.explain out out err err_after (inl refl) in
     no_calls _ _ (ended_as ends c.tell-in-Err-chosen.result failed (fault_told ends word fault err err_after c.tell-in-Err-chosen.result c.tell-in-Err-chosen.ensures failed
     (λ is said. init_refused g.D.Sectors [] config origin files c.args.run.now.explain out err err_after (fault_text word fault) (word_refused g.D.Sectors config origin files c.in-Ok.configuration word fault c.args.run.now.explain c.in-Ok.ensures.held why is) (inl refl) said)))
@@ -56,7 +56,7 @@ returns-in-Err-load_all g c =
     let out = g.W.Write.contents c.args.run.now.out in
     let err = g.E.Write.contents c.args.run.now.err in
     let err_after = g.E.Write.contents c.tell-in-Err-load_all.new.err in
-    let ends : ℕ → Type 0 = λ status. InitEnds g.D.Sectors config origin files (ended [] c.args.run.now.explain out out err err_after status) in
+    let ends : ℕ → Type 0 = λ status. InitEnds g.D.Sectors config origin files (run_end [] c.args.run.now.explain out out err err_after status) in
     let failed = init_failed g.D.Sectors [] config origin files c.args.run.now.explain out out err err_after (inl refl) in
     no_calls _ _ (ended_as ends c.tell-in-Err-load_all.result failed (fault_told ends path fault err err_after c.tell-in-Err-load_all.result c.tell-in-Err-load_all.ensures failed
     (λ is said. init_refused g.D.Sectors [] config origin files c.args.run.now.explain out err err_after (fault_text path fault) (files_refused g.D.Sectors config origin files c.in-Ok.configuration settings path fault c.args.run.now.explain c.in-Ok.ensures.held chosen c.in-Err-load_all.ensures is) (inl refl) said)))
@@ -78,7 +78,7 @@ returns-in-Some g c =
     let chosen = subst (λ (zs : List ZoneSettings). AreChosen origin zs settings) c.deref.ensures.value c.in-Ok-chosen.ensures in
     let given : IsGiven config origin files settings zones = record { configuration = c.in-Ok.configuration; holds = c.in-Ok.ensures.held; chosen = chosen; loaded = c.in-Ok-load_all.ensures } in
     let tried = inr (settings, zones, given, inl (path, fault, found)) in
-    let ends : ℕ → Type 0 = λ status. InitEnds g.D.Sectors config origin files (ended calls c.args.run.now.explain out out err err_after status) in
+    let ends : ℕ → Type 0 = λ status. InitEnds g.D.Sectors config origin files (run_end calls c.args.run.now.explain out out err err_after status) in
     let failed = init_failed g.D.Sectors calls config origin files c.args.run.now.explain out out err err_after tried in (
       calls,
       c.in-Some.ensures.1,

@@ -1,7 +1,7 @@
 use Rattle.std.proofs.Common.{ℕ, inl, inr, refl}
 use Rattle.dns_configuration.proofs.Called.{called_on, ended_as}
 use Rattle.dns_devices.proofs.Told.{device_told}
-use Rattle.dns_commands.specs.Frame.{ended}
+use Rattle.dns_commands.specs.Frame.{run_end}
 use Rattle.dns_commands.specs.Init.{MakingEnds}
 use Rattle.dns_commands.proofs.Made.{making_done, making_failed, making_refused}
 use Rattle.dns_commands.proofs.commands.init.make_all.Goals as goal
@@ -17,7 +17,7 @@ returns-in-Err g c =
     let out = g.W.Write.contents c.args.run.now.out in
     let err = g.E.Write.contents c.args.run.now.err in
     let err_after = g.E.Write.contents c.tell_device.new.err in
-    let ends : ℕ → Type 0 = λ status. MakingEnds g.D.Sectors settings zones (ended calls c.args.run.now.explain out out err err_after status) in
+    let ends : ℕ → Type 0 = λ status. MakingEnds g.D.Sectors settings zones (run_end calls c.args.run.now.explain out out err err_after status) in
     let failed = making_failed g.D.Sectors calls settings zones c.args.run.now.explain out out err err_after (inl (path, fault, undone)) in (
       calls,
       c.in-Err.ensures.1,

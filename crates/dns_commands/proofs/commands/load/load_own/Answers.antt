@@ -2,7 +2,7 @@ use Rattle.std.proofs.Common.{ℕ, [], inl, inr, refl}
 use Rattle.dns_configuration.proofs.Told.{fault_told}
 use Rattle.dns_configuration.proofs.Called.{ended_as, no_calls}
 use Rattle.dns_devices.proofs.Told.{device_told}
-use Rattle.dns_commands.specs.Frame.{ended}
+use Rattle.dns_commands.specs.Frame.{run_end}
 use Rattle.dns_commands.specs.LoadRun.{LoadingEnds}
 use Rattle.dns_commands.proofs.LoadEnded.{file_refused, loading_failed, records_refused, tried_in_vain}
 use Rattle.dns_commands.proofs.commands.load.load_own.Goals as goal
@@ -14,7 +14,7 @@ returns-in-Err g c =
     let out = g.W.Write.contents c.args.run.now.out in
     let err = g.E.Write.contents c.args.run.now.err in
     let err_after = g.E.Write.contents c.tell.new.err in
-    let ends : ℕ → Type 0 = λ status. LoadingEnds g.D.Sectors files own (ended [] c.args.run.now.explain out out err err_after status) in
+    let ends : ℕ → Type 0 = λ status. LoadingEnds g.D.Sectors files own (run_end [] c.args.run.now.explain out out err err_after status) in
     let failed = loading_failed g.D.Sectors [] own files c.args.run.now.explain out out err err_after (inl refl) in
     no_calls _ _ (ended_as ends c.tell.result failed (fault_told ends c.deref.result.now c.in-Err.fault err err_after c.tell.result c.tell.ensures failed
     (λ is said. file_refused g.D.Sectors own files c.args.run.now.explain out err err_after c.deref.result.now c.in-Err.fault c.deref.ensures c.in-Err.ensures is said)))
@@ -31,7 +31,7 @@ returns g c =
     let out = g.W.Write.contents c.args.run.now.out in
     let err = g.E.Write.contents c.args.run.now.err in
     let err_after = g.E.Write.contents c.tell_device.new.err in
-    let ends : ℕ → Type 0 = λ status. LoadingEnds g.D.Sectors files own (ended calls c.args.run.now.explain out out err err_after status) in
+    let ends : ℕ → Type 0 = λ status. LoadingEnds g.D.Sectors files own (run_end calls c.args.run.now.explain out out err err_after status) in
     let tried = inr (zone, c.in-Ok.ensures, tried_in_vain g.D.Sectors calls own zone.records fault why) in
     let failed = loading_failed g.D.Sectors calls own files c.args.run.now.explain out out err err_after tried in (
       calls,

@@ -5,7 +5,7 @@ use Rattle.dns_configuration.specs.declared.configuration.ZoneSettings.{ZoneSett
 use Rattle.dns_devices.specs.DeviceFaults.{IsDeviceTold}
 use Rattle.dns_configuration.proofs.Called.{called_on, ended_as, nothing_called}
 use Rattle.dns_devices.proofs.Told.{device_told, failed_as}
-use Rattle.dns_commands.specs.Frame.{ended}
+use Rattle.dns_commands.specs.Frame.{run_end}
 use Rattle.dns_commands.specs.Migrate.{IsMigratedAs, IsNotMigrated, MigratingEnds, migrated}
 use Rattle.dns_commands.proofs.Migrated.{migrated_more, migrating_done, migrating_failed, migrating_refused, stops_at}
 use Rattle.dns_commands.proofs.commands.migrate.migrate_zones.Goals as goal
@@ -37,7 +37,7 @@ returns-in_err-print_migrated-in-Ok g c =
     let is = subst (λ (z : ZoneSettings). IsMigratedAs g.D.Sectors next z c.in-Ok.answer) c.own-item.is c.in-Ok.ensures.2 in (
       _,
       called_on _ _ _ _ _ before.1 c.in-Ok.ensures.1,
-      failed_as (λ (status : ℕ). MigratingEnds g.D.Sectors c.args.settings.now (ended (before.0 ++ next) c.args.run.now.explain (g.W.Write.contents c.args.run.now.out) (g.W.Write.contents c.print_migrated.new.out) (g.E.Write.contents c.args.run.now.err) (g.E.Write.contents c.loop-own.run.err) status)) c.from_residual.result c.from_residual.ensures.0
+      failed_as (λ (status : ℕ). MigratingEnds g.D.Sectors c.args.settings.now (run_end (before.0 ++ next) c.args.run.now.explain (g.W.Write.contents c.args.run.now.out) (g.W.Write.contents c.print_migrated.new.out) (g.E.Write.contents c.args.run.now.err) (g.E.Write.contents c.loop-own.run.err) status)) c.from_residual.result c.from_residual.ensures.0
           (migrating_failed g.D.Sectors _ c.args.settings.now c.args.run.now.explain _ _ _ _ (inl (suc n, _, migrated_more g.D.Sectors before.0 next c.args.settings.now n own c.in-Ok.answer before.2.0 (omega arith) before.2.1 is))),
     )
 
@@ -60,7 +60,7 @@ returns-in-Err g c =
     let err_after = g.E.Write.contents c.tell_device.new.err in
     let explained = subst (λ (b : Bool). IfOk c.tell_device.result (λ (status : ℕ). IsDeviceTold path fault b (g.E.Write.contents c.loop-own.run.err) err_after status)) c.loop-own.invariant.explain c.tell_device.ensures in
     let told = subst (λ (e : Option (List ℕ)). IfOk c.tell_device.result (λ (status : ℕ). IsDeviceTold path fault c.args.run.now.explain e err_after status)) c.loop-own.invariant.told explained in
-    let ends : ℕ → Type 0 = λ status. MigratingEnds g.D.Sectors settings (ended calls c.args.run.now.explain out out_after err err_after status) in
+    let ends : ℕ → Type 0 = λ status. MigratingEnds g.D.Sectors settings (run_end calls c.args.run.now.explain out out_after err err_after status) in
     let failed = migrating_failed g.D.Sectors calls settings c.args.run.now.explain out out_after err err_after (inr (path, fault, before.2.0, stops)) in (
       calls,
       called_on _ _ _ _ _ before.1 c.in-Err.ensures.1,
