@@ -17,10 +17,9 @@ use Rattle.dns_devices.specs.declared.device_faults.DeviceFault.{DeviceFault}
 use Rattle.dns_changes.specs.Change.{Change}
 use Rattle.dns_devices.specs.DeviceFaults.{device_text, status_of}
 use Rattle.dns_devices.specs.DeviceCalls.{DeviceCall}
-use Rattle.dns_devices.specs.Stores.{AreCallsOf}
-use Rattle.dns_configuration.specs.Named.{IsNamed, IsNoZoneName}
+use Rattle.dns_commands.specs.Frame.{run_end}
 use Rattle.dns_commands.specs.LoadRun.{path_blamed}
-use Rattle.dns_commands.specs.Compare.{ComparingEnds, ComparisonEnds, HasNoDifference, IsCompared, IsComparisonTried, IsDifference, IsFileTried, difference_text}
+use Rattle.dns_commands.specs.Compare.{ComparingEnds, HasNoDifference, IsCompared, IsComparisonTried, IsDifference, IsFileTried, difference_text}
 
 -- The records were compared, with a change or with a refusal.
 pub comparing_ends : {D : Type 0} (g : Ghosts D) (calls : List (DeviceCall D)) (own : ZoneSettings) (records : List Record) (r : Result (Option Change) DeviceFault) → IsCompared g calls own records r → MatchResult r (IsDifference g calls own records) (HasNoDifference g calls own records)
@@ -28,7 +27,7 @@ comparing_ends g calls own records (Ok change) is = is
 comparing_ends g calls own records (Err fault) is = inr is
 
 -- A writer failed or memory was refused.
-pub comparing_failed : {D : Type 0} (g : Ghosts D) (calls : List (DeviceCall D)) (own : ZoneSettings) (files : List File) (explain : Bool) (out out_after err err_after : Option (List ℕ)) → IsFileTried g calls files own → ComparingEnds g calls own files explain out out_after err err_after 3
+pub comparing_failed : {D : Type 0} (g : Ghosts D) (calls : List (DeviceCall D)) (own : ZoneSettings) (files : List File) (explain : Bool) (out out_after err err_after : Option (List ℕ)) → IsFileTried g calls files own → ComparingEnds g files own (run_end calls explain out out_after err err_after 3)
 comparing_failed g calls own files explain out out_after err err_after called = record {
   done = λ e. absurd (omega (arith, e));
   refused = λ e. absurd (omega (arith, e));
@@ -36,16 +35,8 @@ comparing_failed g calls own files explain out out_after err err_after called = 
   called = called;
 }
 
-pub comparison_failed : {D : Type 0} (g : Ghosts D) (calls : List (DeviceCall D)) (config : File) (files : List File) (origin : List ℕ) (explain : Bool) (out out_after err err_after : Option (List ℕ)) → AreCallsOf config origin (IsFileTried g calls files) calls → ComparisonEnds g calls config files origin explain out out_after err err_after 3
-comparison_failed g calls config files origin explain out out_after err err_after called = record {
-  done = λ e. absurd (omega (arith, e));
-  refused = λ e. absurd (omega (arith, e));
-  others = inr refl;
-  called = called;
-}
-
 -- The file holds no zone.
-pub file_not_compared : {D : Type 0} (g : Ghosts D) (own : ZoneSettings) (files : List File) (explain : Bool) (out err err_after : Option (List ℕ)) (path : List ℕ) (fault : Fault) → path ≡ string_bytes own.file → ((is_memory fault ≡ true) ⊎ (loaded_by files own ≡ Err fault)) → is_memory fault ≡ false → Appends err err_after (line (fault_text path fault)) → ComparingEnds g [] own files explain out out err err_after 1
+pub file_not_compared : {D : Type 0} (g : Ghosts D) (own : ZoneSettings) (files : List File) (explain : Bool) (out err err_after : Option (List ℕ)) (path : List ℕ) (fault : Fault) → path ≡ string_bytes own.file → ((is_memory fault ≡ true) ⊎ (loaded_by files own ≡ Err fault)) → is_memory fault ≡ false → Appends err err_after (line (fault_text path fault)) → ComparingEnds g files own (run_end [] explain out out err err_after 1)
 file_not_compared g own files explain out err err_after path fault p (inl memory) not_memory said = absurd (let both : true ≡ false = sym memory ∙ not_memory in cc)
 file_not_compared g own files explain out err err_after path fault p (inr why) not_memory said = record {
   done = λ e. absurd (omega (arith, e));
@@ -60,7 +51,7 @@ tried_in_vain g calls own records fault (inl why) = inr (fault, why)
 tried_in_vain g calls own records fault (inr is) = inl (Err fault, is)
 
 -- The records were not compared.
-pub records_not_compared : {D : Type 0} (g : Ghosts D) (calls : List (DeviceCall D)) (own : ZoneSettings) (files : List File) (explain : Bool) (out err err_after : Option (List ℕ)) (path : List ℕ) (zone : Zone) (fault : DeviceFault) → path ≡ path_blamed own fault → IsLoadedFrom files own zone → HasNoDifference g calls own zone.records fault → status_of fault ≡ 1 → Appends err err_after (line (device_text path fault explain)) → ComparingEnds g calls own files explain out out err err_after 1
+pub records_not_compared : {D : Type 0} (g : Ghosts D) (calls : List (DeviceCall D)) (own : ZoneSettings) (files : List File) (explain : Bool) (out err err_after : Option (List ℕ)) (path : List ℕ) (zone : Zone) (fault : DeviceFault) → path ≡ path_blamed own fault → IsLoadedFrom files own zone → HasNoDifference g calls own zone.records fault → status_of fault ≡ 1 → Appends err err_after (line (device_text path fault explain)) → ComparingEnds g files own (run_end calls explain out out err err_after 1)
 records_not_compared g calls own files explain out err err_after path zone fault p read why status said = record {
   done = λ e. absurd (omega (arith, e));
   refused = λ _. (device_text path fault explain, inr (zone, fault, read, why, status, ap (λ (t : List ℕ). device_text t fault explain) p), said, Keeps-refl out);
@@ -69,30 +60,12 @@ records_not_compared g calls own files explain out err err_after path zone fault
 }
 
 -- They were.
-pub records_compared : {D : Type 0} (g : Ghosts D) (calls : List (DeviceCall D)) (own : ZoneSettings) (files : List File) (explain : Bool) (out out_after err : Option (List ℕ)) (zone : Zone) (change : Option Change) → IsLoadedFrom files own zone → IsDifference g calls own zone.records change → Appends out out_after (difference_text own change) → ComparingEnds g calls own files explain out out_after err err 0
+pub records_compared : {D : Type 0} (g : Ghosts D) (calls : List (DeviceCall D)) (own : ZoneSettings) (files : List File) (explain : Bool) (out out_after err : Option (List ℕ)) (zone : Zone) (change : Option Change) → IsLoadedFrom files own zone → IsDifference g calls own zone.records change → Appends out out_after (difference_text own change) → ComparingEnds g files own (run_end calls explain out out_after err err 0)
 records_compared g calls own files explain out out_after err zone change read is said = record {
   done = λ _. (change, record { zone = zone; read = read; differs = is }, said, Keeps-refl err);
   refused = λ e. absurd (omega (arith, e));
   others = inl (omega arith);
   called = inr (zone, read, inl (Ok change, is));
-}
-
--- What was compared is the file of the zone of that name.
-pub compare_named : {D : Type 0} (g : Ghosts D) (calls : List (DeviceCall D)) (config : File) (files : List File) (origin : List ℕ) (own : ZoneSettings) (explain : Bool) (out out_after err err_after : Option (List ℕ)) (status : ℕ) → IsNamed config origin own → ComparingEnds g calls own files explain out out_after err err_after status → ComparisonEnds g calls config files origin explain out out_after err err_after status
-compare_named g calls config files origin own explain out out_after err err_after status named h = record {
-  done = λ e. let d = h.done e in (own, named, d.0, d.1, d.2, d.3);
-  refused = λ e. let d = h.refused e in (d.0, d.2, d.3, inr (own, named, d.1));
-  others = h.others;
-  called = inr (own, named, h.called);
-}
-
--- The configuration or the origin is refused.
-pub compare_unnamed : {D : Type 0} (g : Ghosts D) (config : File) (files : List File) (origin : List ℕ) (explain : Bool) (out err err_after : Option (List ℕ)) (text : List ℕ) → IsNoZoneName config origin text → Appends err err_after (line text) → ComparisonEnds g [] config files origin explain out out err err_after 1
-compare_unnamed g config files origin explain out err err_after text why said = record {
-  done = λ e. absurd (omega (arith, e));
-  refused = λ _. (text, said, Keeps-refl out, inl why);
-  others = inl (omega arith);
-  called = inl refl;
 }
 
 -- One text was written, and then another, if it was.

@@ -7,6 +7,7 @@ use Rattle.std.proofs.lemmas.List.Concat.{flat_map-append}
 use Rattle.std.proofs.lemmas.List.Elements.{filter-append}
 use Rattle.dns_records.specs.Record.{Record}
 use Rattle.dns_masterfile.specs.Printed.{printed_record}
+use Rattle.dns_commands.specs.Frame.{run_end}
 use Rattle.dns_commands.specs.Compare.{signed_lines}
 use Rattle.std.specs.String.{string_bytes}
 use Rattle.std.specs.Io.KnownBytes.{Appends}
@@ -22,14 +23,12 @@ use Rattle.dns_store.specs.Recovered.{AreLed}
 use Rattle.dns_store.specs.Versions.{Opened, Versions, newest_after, opened_again, version_at}
 use Rattle.dns_store.proofs.Lent.{zones_of}
 use Rattle.dns_configuration.specs.declared.configuration.ZoneSettings.{ZoneSettings}
-use Rattle.dns_configuration.specs.declared.files.File.{File}
 use Rattle.dns_configuration.specs.Faults.{line}
-use Rattle.dns_configuration.specs.Named.{IsNamed, IsNoZoneName}
 use Rattle.dns_devices.specs.declared.device_faults.DeviceFault.{DeviceFault}
 use Rattle.dns_devices.specs.DeviceFaults.{device_text, status_of}
 use Rattle.dns_devices.specs.DeviceCalls.{DeviceCall}
-use Rattle.dns_devices.specs.Stores.{AreCallsOf, own_shape}
-use Rattle.dns_commands.specs.Diff.{Answer, DiffEnds, DiffingEnds, HasNoDifference, IsDiffTried, IsDiffed, IsDifference, IsDifferenceFrom, IsDifferenceIn, IsEnd, IsFound, diff_text}
+use Rattle.dns_devices.specs.Stores.{own_shape}
+use Rattle.dns_commands.specs.Diff.{Answer, DiffingEnds, HasNoDiff, IsDiffTried, IsDiffed, IsDiffAnswer, IsDifferenceFrom, IsDifferenceIn, IsEnd, HasDiff, diff_text}
 use Rattle.dns_commands.specs.DumpAt.{IsAnswerFor, IsChosenFrom, unfound_text}
 use Rattle.dns_commands.proofs.DumpedAt.{answered}
 
@@ -39,7 +38,7 @@ same_end : (A B : ℕ → Result (Option Zone) DeviceFault → Type 0) (newest z
 same_end A B newest zone None f is = is
 same_end A B newest zone (Some serial) f is = f serial (Ok (Some zone)) is
 
-same_difference : (A B : ℕ → Result (Option Zone) DeviceFault → Type 0) (newest : Zone) (from : ℕ) (to : Option ℕ) (r : Answer) → ((serial : ℕ) (r : Result (Option Zone) DeviceFault) → A serial r → B serial r) → IsDifference A newest from to r → IsDifference B newest from to r
+same_difference : (A B : ℕ → Result (Option Zone) DeviceFault → Type 0) (newest : Zone) (from : ℕ) (to : Option ℕ) (r : Answer) → ((serial : ℕ) (r : Result (Option Zone) DeviceFault) → A serial r → B serial r) → IsDiffAnswer A newest from to r → IsDiffAnswer B newest from to r
 same_difference A B newest from to (Ok (Ok change)) f is = record {
   before = is.before;
   after = is.after;
@@ -69,13 +68,13 @@ difference_kept own from to o content base newest changes r opening base_is led 
     (λ serial s is. answered own serial o changes s (opening.3).so_far led is) (at led zones)
 
 -- The device was looked into, with this answer or without one.
-pub diffing_ends : {D : Type 0} (g : Ghosts D) (calls : List (DeviceCall D)) (own : ZoneSettings) (from : ℕ) (to : Option ℕ) (r : Answer) → IfErr r (λ e. status_of e ≡ 3) → IsDiffed g calls own from to r → MatchResult r (IsFound g calls own from to) (HasNoDifference g calls own from to)
+pub diffing_ends : {D : Type 0} (g : Ghosts D) (calls : List (DeviceCall D)) (own : ZoneSettings) (from : ℕ) (to : Option ℕ) (r : Answer) → IfErr r (λ e. status_of e ≡ 3) → IsDiffed g calls own from to r → MatchResult r (HasDiff g calls own from to) (HasNoDiff g calls own from to)
 diffing_ends g calls own from to (Ok found) failed is = is
 diffing_ends g calls own from to (Err fault) failed is = inr (failed, is)
 
 -- ---- how a run ends
 -- A writer failed or memory was refused.
-pub diffing_failed : {D : Type 0} (g : Ghosts D) (calls : List (DeviceCall D)) (own : ZoneSettings) (from : ℕ) (to : Option ℕ) (as_update explain : Bool) (out out_after err err_after : Option (List ℕ)) → IsDiffTried g calls from to own → DiffingEnds g calls own from to as_update explain out out_after err err_after 3
+pub diffing_failed : {D : Type 0} (g : Ghosts D) (calls : List (DeviceCall D)) (own : ZoneSettings) (from : ℕ) (to : Option ℕ) (as_update explain : Bool) (out out_after err err_after : Option (List ℕ)) → IsDiffTried g calls from to own → DiffingEnds g from to as_update own (run_end calls explain out out_after err err_after 3)
 diffing_failed g calls own from to as_update explain out out_after err err_after called = record {
   done = λ e. absurd (omega (arith, e));
   refused = λ e. absurd (omega (arith, e));
@@ -83,21 +82,13 @@ diffing_failed g calls own from to as_update explain out out_after err err_after
   called = called;
 }
 
-pub diff_failed : {D : Type 0} (g : Ghosts D) (calls : List (DeviceCall D)) (config : File) (origin : List ℕ) (from : ℕ) (to : Option ℕ) (as_update explain : Bool) (out out_after err err_after : Option (List ℕ)) → AreCallsOf config origin (IsDiffTried g calls from to) calls → DiffEnds g calls config origin from to as_update explain out out_after err err_after 3
-diff_failed g calls config origin from to as_update explain out out_after err err_after called = record {
-  done = λ e. absurd (omega (arith, e));
-  refused = λ e. absurd (omega (arith, e));
-  others = inr refl;
-  called = called;
-}
-
 -- Without an answer the device was looked into all the same.
-pub tried_in_vain : {D : Type 0} (g : Ghosts D) (calls : List (DeviceCall D)) (own : ZoneSettings) (from : ℕ) (to : Option ℕ) (fault : DeviceFault) → HasNoDifference g calls own from to fault → IsDiffTried g calls from to own
+pub tried_in_vain : {D : Type 0} (g : Ghosts D) (calls : List (DeviceCall D)) (own : ZoneSettings) (from : ℕ) (to : Option ℕ) (fault : DeviceFault) → HasNoDiff g calls own from to fault → IsDiffTried g calls from to own
 tried_in_vain g calls own from to fault (inl why) = inr (fault, why)
 tried_in_vain g calls own from to fault (inr is) = inl (Err fault, is.1)
 
 -- The device shows no version.
-pub not_diffed : {D : Type 0} (g : Ghosts D) (calls : List (DeviceCall D)) (own : ZoneSettings) (from : ℕ) (to : Option ℕ) (as_update explain : Bool) (out err err_after : Option (List ℕ)) (path : List ℕ) (fault : DeviceFault) → path ≡ string_bytes own.device → HasNoDifference g calls own from to fault → status_of fault ≡ 1 → Appends err err_after (line (device_text path fault explain)) → DiffingEnds g calls own from to as_update explain out out err err_after 1
+pub not_diffed : {D : Type 0} (g : Ghosts D) (calls : List (DeviceCall D)) (own : ZoneSettings) (from : ℕ) (to : Option ℕ) (as_update explain : Bool) (out err err_after : Option (List ℕ)) (path : List ℕ) (fault : DeviceFault) → path ≡ string_bytes own.device → HasNoDiff g calls own from to fault → status_of fault ≡ 1 → Appends err err_after (line (device_text path fault explain)) → DiffingEnds g from to as_update own (run_end calls explain out out err err_after 1)
 not_diffed g calls own from to as_update explain out err err_after path fault p (inr is) status said = absurd (omega (arith, is.0, status))
 not_diffed g calls own from to as_update explain out err err_after path fault p (inl why) status said = record {
   done = λ e. absurd (omega (arith, e));
@@ -107,7 +98,7 @@ not_diffed g calls own from to as_update explain out err err_after path fault p 
 }
 
 -- No version has the serial.
-pub missing : {D : Type 0} (g : Ghosts D) (calls : List (DeviceCall D)) (own : ZoneSettings) (from : ℕ) (to : Option ℕ) (as_update explain : Bool) (out err err_after : Option (List ℕ)) (serial : ℕ) → IsFound g calls own from to (Err serial) → Appends err err_after (line (unfound_text serial explain)) → DiffingEnds g calls own from to as_update explain out out err err_after 1
+pub missing : {D : Type 0} (g : Ghosts D) (calls : List (DeviceCall D)) (own : ZoneSettings) (from : ℕ) (to : Option ℕ) (as_update explain : Bool) (out err err_after : Option (List ℕ)) (serial : ℕ) → HasDiff g calls own from to (Err serial) → Appends err err_after (line (unfound_text serial explain)) → DiffingEnds g from to as_update own (run_end calls explain out out err err_after 1)
 missing g calls own from to as_update explain out err err_after serial is said = record {
   done = λ e. absurd (omega (arith, e));
   refused = λ _. (unfound_text serial explain, inr (serial, is, refl), said, Keeps-refl out);
@@ -116,30 +107,12 @@ missing g calls own from to as_update explain out err err_after serial is said =
 }
 
 -- The change was printed.
-pub diffed : {D : Type 0} (g : Ghosts D) (calls : List (DeviceCall D)) (own : ZoneSettings) (from : ℕ) (to : Option ℕ) (as_update explain : Bool) (out out_after err : Option (List ℕ)) (change : Option Change) → IsFound g calls own from to (Ok change) → Appends out out_after (diff_text as_update own change) → DiffingEnds g calls own from to as_update explain out out_after err err 0
+pub diffed : {D : Type 0} (g : Ghosts D) (calls : List (DeviceCall D)) (own : ZoneSettings) (from : ℕ) (to : Option ℕ) (as_update explain : Bool) (out out_after err : Option (List ℕ)) (change : Option Change) → HasDiff g calls own from to (Ok change) → Appends out out_after (diff_text as_update own change) → DiffingEnds g from to as_update own (run_end calls explain out out_after err err 0)
 diffed g calls own from to as_update explain out out_after err change is said = record {
   done = λ _. (change, is, said, Keeps-refl err);
   refused = λ e. absurd (omega (arith, e));
   others = inl (omega arith);
   called = inl (Ok (Ok change), is);
-}
-
--- What is printed is that of the zone of that name.
-pub diff_named : {D : Type 0} (g : Ghosts D) (calls : List (DeviceCall D)) (config : File) (origin : List ℕ) (own : ZoneSettings) (from : ℕ) (to : Option ℕ) (as_update explain : Bool) (out out_after err err_after : Option (List ℕ)) (status : ℕ) → IsNamed config origin own → DiffingEnds g calls own from to as_update explain out out_after err err_after status → DiffEnds g calls config origin from to as_update explain out out_after err err_after status
-diff_named g calls config origin own from to as_update explain out out_after err err_after status named h = record {
-  done = λ e. let d = h.done e in (own, d.0, named, d.1, d.2, d.3);
-  refused = λ e. let d = h.refused e in (d.0, d.2, d.3, inr (own, named, d.1));
-  others = h.others;
-  called = inr (own, named, h.called);
-}
-
--- The configuration or the origin is refused.
-pub diff_unnamed : {D : Type 0} (g : Ghosts D) (config : File) (origin : List ℕ) (from : ℕ) (to : Option ℕ) (as_update explain : Bool) (out err err_after : Option (List ℕ)) (text : List ℕ) → IsNoZoneName config origin text → Appends err err_after (line text) → DiffEnds g [] config origin from to as_update explain out out err err_after 1
-diff_unnamed g config origin from to as_update explain out err err_after text why said = record {
-  done = λ e. absurd (omega (arith, e));
-  refused = λ _. (text, said, Keeps-refl out, inl why);
-  others = inl (omega arith);
-  called = inl refl;
 }
 
 -- ---- what is printed

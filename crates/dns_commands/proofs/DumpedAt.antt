@@ -24,15 +24,14 @@ use Rattle.dns_serial.specs.Serial.{greater}
 use Rattle.dns_transfer.specs.Form.{Current, Full, Incremental, form_of, form_since, is_journalled, since}
 use Rattle.dns_primary.proofs.Transferred.{along_is}
 use Rattle.dns_configuration.specs.declared.configuration.ZoneSettings.{ZoneSettings}
-use Rattle.dns_configuration.specs.declared.files.File.{File}
 use Rattle.dns_configuration.specs.Faults.{line}
-use Rattle.dns_configuration.specs.Named.{IsNamed, IsNoZoneName}
 use Rattle.dns_devices.specs.declared.device_faults.DeviceFault.{DeviceFault}
 use Rattle.dns_devices.specs.declared.device_faults.DeviceFault.TheVariants.{OutOfMemory}
 use Rattle.dns_devices.specs.DeviceFaults.{device_text, status_of}
 use Rattle.dns_devices.specs.DeviceCalls.{DeviceCall}
-use Rattle.dns_devices.specs.Stores.{AreCallsOf, own_shape}
-use Rattle.dns_commands.specs.DumpAt.{DumpAtEnds, HasNoAnswer, HasNone, IsAnswerFor, IsAnswered, IsChosenFrom, IsIncremental, IsPickTried, IsPicked, PickingEnds, unfound_text}
+use Rattle.dns_devices.specs.Stores.{own_shape}
+use Rattle.dns_commands.specs.Frame.{run_end}
+use Rattle.dns_commands.specs.DumpAt.{HasNoAnswer, HasNoVersion, IsAnswerFor, HasAnswer, IsChosenFrom, IsIncremental, IsPickTried, IsPicked, PickingEnds, unfound_text}
 use Rattle.dns_commands.specs.History.{version_in}
 use Rattle.dns_commands.proofs.Historied.{between, led_after, led_length, left_after}
 
@@ -98,7 +97,7 @@ pub answered : (own : ZoneSettings) (serial : ℕ) (o : Opened) (changes : List 
     → IsAnswerFor own serial r o
 answered own serial o changes (Err fault) so_far led is = is
 answered own serial o changes (Ok None) so_far led is =
-    subst (λ (cs : List Change). HasNone (newest_after o.loaded o.versions) cs serial) (along_is (base_of o) (drop o.base o.versions) changes led) is
+    subst (λ (cs : List Change). HasNoVersion (newest_after o.loaded o.versions) cs serial) (along_is (base_of o) (drop o.base o.versions) changes led) is
 answered own serial o changes (Ok (Some zone)) so_far led (inl is) =
     let whole : newest_after o.loaded o.versions ≡ newest_after o.loaded (take (length o.versions) o.versions) = ap (newest_after o.loaded) (sym (take-length o.versions)) in (
       length o.versions,
@@ -147,22 +146,14 @@ answer_kept own serial o content base newest changes r opening base_is led newes
     answered own serial o changes r (opening.3).so_far led (at led zones)
 
 -- The device was looked into, with this answer or without one.
-pub picking_ends : {D : Type 0} (g : Ghosts D) (calls : List (DeviceCall D)) (own : ZoneSettings) (serial : ℕ) (r : Result (Option Zone) DeviceFault) → IfErr r (λ e. status_of e ≡ 3) → IsPicked g calls own serial r → MatchResult r (IsAnswered g calls own serial) (HasNoAnswer g calls own serial)
+pub picking_ends : {D : Type 0} (g : Ghosts D) (calls : List (DeviceCall D)) (own : ZoneSettings) (serial : ℕ) (r : Result (Option Zone) DeviceFault) → IfErr r (λ e. status_of e ≡ 3) → IsPicked g calls own serial r → MatchResult r (HasAnswer g calls own serial) (HasNoAnswer g calls own serial)
 picking_ends g calls own serial (Ok found) failed is = is
 picking_ends g calls own serial (Err fault) failed is = inr (failed, is)
 
 -- ---- how a run ends
 -- A writer failed or memory was refused.
-pub picking_failed : {D : Type 0} (g : Ghosts D) (calls : List (DeviceCall D)) (own : ZoneSettings) (serial : ℕ) (explain : Bool) (out out_after err err_after : Option (List ℕ)) → IsPickTried g calls serial own → PickingEnds g calls own serial explain out out_after err err_after 3
+pub picking_failed : {D : Type 0} (g : Ghosts D) (calls : List (DeviceCall D)) (own : ZoneSettings) (serial : ℕ) (explain : Bool) (out out_after err err_after : Option (List ℕ)) → IsPickTried g calls serial own → PickingEnds g serial own (run_end calls explain out out_after err err_after 3)
 picking_failed g calls own serial explain out out_after err err_after called = record {
-  done = λ e. absurd (omega (arith, e));
-  refused = λ e. absurd (omega (arith, e));
-  others = inr refl;
-  called = called;
-}
-
-pub dump_at_failed : {D : Type 0} (g : Ghosts D) (calls : List (DeviceCall D)) (config : File) (origin : List ℕ) (serial : ℕ) (explain : Bool) (out out_after err err_after : Option (List ℕ)) → AreCallsOf config origin (IsPickTried g calls serial) calls → DumpAtEnds g calls config origin serial explain out out_after err err_after 3
-dump_at_failed g calls config origin serial explain out out_after err err_after called = record {
   done = λ e. absurd (omega (arith, e));
   refused = λ e. absurd (omega (arith, e));
   others = inr refl;
@@ -175,7 +166,7 @@ tried_in_vain g calls own serial fault (inl why) = inr (fault, why)
 tried_in_vain g calls own serial fault (inr is) = inl (Err fault, is.1)
 
 -- The device shows no version.
-pub not_picked : {D : Type 0} (g : Ghosts D) (calls : List (DeviceCall D)) (own : ZoneSettings) (serial : ℕ) (explain : Bool) (out err err_after : Option (List ℕ)) (path : List ℕ) (fault : DeviceFault) → path ≡ string_bytes own.device → HasNoAnswer g calls own serial fault → status_of fault ≡ 1 → Appends err err_after (line (device_text path fault explain)) → PickingEnds g calls own serial explain out out err err_after 1
+pub not_picked : {D : Type 0} (g : Ghosts D) (calls : List (DeviceCall D)) (own : ZoneSettings) (serial : ℕ) (explain : Bool) (out err err_after : Option (List ℕ)) (path : List ℕ) (fault : DeviceFault) → path ≡ string_bytes own.device → HasNoAnswer g calls own serial fault → status_of fault ≡ 1 → Appends err err_after (line (device_text path fault explain)) → PickingEnds g serial own (run_end calls explain out out err err_after 1)
 not_picked g calls own serial explain out err err_after path fault p (inr is) status said = absurd (omega (arith, is.0, status))
 not_picked g calls own serial explain out err err_after path fault p (inl why) status said = record {
   done = λ e. absurd (omega (arith, e));
@@ -185,7 +176,7 @@ not_picked g calls own serial explain out err err_after path fault p (inl why) s
 }
 
 -- No version has the serial.
-pub unfound : {D : Type 0} (g : Ghosts D) (calls : List (DeviceCall D)) (own : ZoneSettings) (serial : ℕ) (explain : Bool) (out err err_after : Option (List ℕ)) → IsAnswered g calls own serial None → Appends err err_after (line (unfound_text serial explain)) → PickingEnds g calls own serial explain out out err err_after 1
+pub unfound : {D : Type 0} (g : Ghosts D) (calls : List (DeviceCall D)) (own : ZoneSettings) (serial : ℕ) (explain : Bool) (out err err_after : Option (List ℕ)) → HasAnswer g calls own serial None → Appends err err_after (line (unfound_text serial explain)) → PickingEnds g serial own (run_end calls explain out out err err_after 1)
 unfound g calls own serial explain out err err_after is said = record {
   done = λ e. absurd (omega (arith, e));
   refused = λ _. (unfound_text serial explain, inr (is, refl), said, Keeps-refl out);
@@ -198,28 +189,10 @@ unfound_told P (Ok status) A told refused = subst P (sym told.0) (refused told.1
 unfound_told P (Err e) A told refused = tt
 
 -- The version was printed.
-pub picked : {D : Type 0} (g : Ghosts D) (calls : List (DeviceCall D)) (own : ZoneSettings) (serial : ℕ) (explain : Bool) (out out_after err : Option (List ℕ)) (zone : Zone) → IsAnswered g calls own serial (Some zone) → Appends out out_after (printed_zone zone.records) → PickingEnds g calls own serial explain out out_after err err 0
+pub picked : {D : Type 0} (g : Ghosts D) (calls : List (DeviceCall D)) (own : ZoneSettings) (serial : ℕ) (explain : Bool) (out out_after err : Option (List ℕ)) (zone : Zone) → HasAnswer g calls own serial (Some zone) → Appends out out_after (printed_zone zone.records) → PickingEnds g serial own (run_end calls explain out out_after err err 0)
 picked g calls own serial explain out out_after err zone is said = record {
   done = λ _. (zone, is, said, Keeps-refl err);
   refused = λ e. absurd (omega (arith, e));
   others = inl (omega arith);
   called = inl (Ok (Some zone), is);
-}
-
--- What is shown is that of the zone of that name.
-pub dump_at_named : {D : Type 0} (g : Ghosts D) (calls : List (DeviceCall D)) (config : File) (origin : List ℕ) (own : ZoneSettings) (serial : ℕ) (explain : Bool) (out out_after err err_after : Option (List ℕ)) (status : ℕ) → IsNamed config origin own → PickingEnds g calls own serial explain out out_after err err_after status → DumpAtEnds g calls config origin serial explain out out_after err err_after status
-dump_at_named g calls config origin own serial explain out out_after err err_after status named h = record {
-  done = λ e. let d = h.done e in (own, d.0, named, d.1, d.2, d.3);
-  refused = λ e. let d = h.refused e in (d.0, d.2, d.3, inr (own, named, d.1));
-  others = h.others;
-  called = inr (own, named, h.called);
-}
-
--- The configuration or the origin is refused.
-pub dump_at_unnamed : {D : Type 0} (g : Ghosts D) (config : File) (origin : List ℕ) (serial : ℕ) (explain : Bool) (out err err_after : Option (List ℕ)) (text : List ℕ) → IsNoZoneName config origin text → Appends err err_after (line text) → DumpAtEnds g [] config origin serial explain out out err err_after 1
-dump_at_unnamed g config origin serial explain out err err_after text why said = record {
-  done = λ e. absurd (omega (arith, e));
-  refused = λ _. (text, said, Keeps-refl out, inl why);
-  others = inl (omega arith);
-  called = inl refl;
 }

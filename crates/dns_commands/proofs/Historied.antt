@@ -26,17 +26,16 @@ use Rattle.dns_store.proofs.Lent.{led_drop}
 use Rattle.dns_transfer.specs.Form.{advances, is_journalled}
 use Rattle.dns_primary.proofs.Transferred.{along_is}
 use Rattle.dns_configuration.specs.declared.configuration.ZoneSettings.{ZoneSettings}
-use Rattle.dns_configuration.specs.declared.files.File.{File}
 use Rattle.dns_configuration.specs.Faults.{line}
-use Rattle.dns_configuration.specs.Named.{IsNamed, IsNoZoneName}
 use Rattle.dns_devices.specs.declared.device_faults.DeviceFault.{DeviceFault}
 use Rattle.dns_devices.specs.DeviceFaults.{device_text, status_of}
 use Rattle.dns_devices.specs.DeviceCalls as call
 use Rattle.dns_devices.specs.DeviceCalls.{DeviceCall}
-use Rattle.dns_devices.specs.Stores.{AreCallsOf, IsNotShown, IsStoreOpened, own_shape}
+use Rattle.dns_devices.specs.Stores.{IsNotShown, IsStoreOpened, own_shape}
 use Rattle.dns_devices.proofs.Closed.{leaves_kept}
+use Rattle.dns_commands.specs.Frame.{run_end}
 use Rattle.dns_commands.specs.Compare.{change_lines}
-use Rattle.dns_commands.specs.History.{History, HistoryEnds, IsHistoryOf, IsListTried, IsListed, IsSeenAs, ListingEnds, changes_after, history_of, history_text, step_line, step_text, steps_text, version_in}
+use Rattle.dns_commands.specs.History.{History, IsHistoryOf, IsListTried, ShowsHistory, IsSeenAs, ListingEnds, changes_after, history_of, history_text, step_line, step_text, steps_text, version_in}
 
 -- The records of a change are printed after its line, or they are not.
 pub step_with : (with_records : Bool) (number : ℕ) (change : Change) → with_records ≡ true → step_line number change ++ change_lines change ≡ step_text with_records number change
@@ -193,16 +192,8 @@ seen_as {D} g opened own store newest after path P is after_is path_is holds = r
 }
 
 -- A writer failed or memory was refused.
-pub listing_failed : {D : Type 0} (g : Ghosts D) (calls : List (DeviceCall D)) (own : ZoneSettings) (with_records explain : Bool) (out out_after err err_after : Option (List ℕ)) → IsListTried g calls own → ListingEnds g calls own with_records explain out out_after err err_after 3
+pub listing_failed : {D : Type 0} (g : Ghosts D) (calls : List (DeviceCall D)) (own : ZoneSettings) (with_records explain : Bool) (out out_after err err_after : Option (List ℕ)) → IsListTried g calls own → ListingEnds g with_records own (run_end calls explain out out_after err err_after 3)
 listing_failed g calls own with_records explain out out_after err err_after called = record {
-  done = λ e. absurd (omega (arith, e));
-  refused = λ e. absurd (omega (arith, e));
-  others = inr refl;
-  called = called;
-}
-
-pub history_failed : {D : Type 0} (g : Ghosts D) (calls : List (DeviceCall D)) (config : File) (origin : List ℕ) (with_records explain : Bool) (out out_after err err_after : Option (List ℕ)) → AreCallsOf config origin (IsListTried g calls) calls → HistoryEnds g calls config origin with_records explain out out_after err err_after 3
-history_failed g calls config origin with_records explain out out_after err err_after called = record {
   done = λ e. absurd (omega (arith, e));
   refused = λ e. absurd (omega (arith, e));
   others = inr refl;
@@ -214,7 +205,7 @@ written_in_vain P (Ok status) is failed = absurd (cc is)
 written_in_vain P (Err e) is failed = failed
 
 -- The device shows no version.
-pub not_listed : {D : Type 0} (g : Ghosts D) (calls : List (DeviceCall D)) (own : ZoneSettings) (with_records explain : Bool) (out err err_after : Option (List ℕ)) (path : List ℕ) (fault : DeviceFault) → path ≡ string_bytes own.device → IsNotShown g calls own fault → status_of fault ≡ 1 → Appends err err_after (line (device_text path fault explain)) → ListingEnds g calls own with_records explain out out err err_after 1
+pub not_listed : {D : Type 0} (g : Ghosts D) (calls : List (DeviceCall D)) (own : ZoneSettings) (with_records explain : Bool) (out err err_after : Option (List ℕ)) (path : List ℕ) (fault : DeviceFault) → path ≡ string_bytes own.device → IsNotShown g calls own fault → status_of fault ≡ 1 → Appends err err_after (line (device_text path fault explain)) → ListingEnds g with_records own (run_end calls explain out out err err_after 1)
 not_listed g calls own with_records explain out err err_after path fault p why status said = record {
   done = λ e. absurd (omega (arith, e));
   refused = λ _. (fault, why, status, subst (λ (t : List ℕ). Appends err err_after (line (device_text t fault explain))) p said, Keeps-refl out);
@@ -223,28 +214,10 @@ not_listed g calls own with_records explain out err err_after path fault p why s
 }
 
 -- Its versions were printed.
-pub listed : {D : Type 0} (g : Ghosts D) (calls : List (DeviceCall D)) (own : ZoneSettings) (with_records explain : Bool) (out out_after err : Option (List ℕ)) (h : History) → IsListed g calls own h → Appends out out_after (history_text with_records h) → ListingEnds g calls own with_records explain out out_after err err 0
+pub listed : {D : Type 0} (g : Ghosts D) (calls : List (DeviceCall D)) (own : ZoneSettings) (with_records explain : Bool) (out out_after err : Option (List ℕ)) (h : History) → ShowsHistory g calls own h → Appends out out_after (history_text with_records h) → ListingEnds g with_records own (run_end calls explain out out_after err err 0)
 listed g calls own with_records explain out out_after err h is said = record {
   done = λ _. (h, is, said, Keeps-refl err);
   refused = λ e. absurd (omega (arith, e));
   others = inl (omega arith);
   called = inl (h, is);
-}
-
--- What is printed is that of the zone of that name.
-pub history_listed : {D : Type 0} (g : Ghosts D) (calls : List (DeviceCall D)) (config : File) (origin : List ℕ) (own : ZoneSettings) (with_records explain : Bool) (out out_after err err_after : Option (List ℕ)) (status : ℕ) → IsNamed config origin own → ListingEnds g calls own with_records explain out out_after err err_after status → HistoryEnds g calls config origin with_records explain out out_after err err_after status
-history_listed g calls config origin own with_records explain out out_after err err_after status named h = record {
-  done = λ e. let d = h.done e in (own, d.0, named, d.1, d.2, d.3);
-  refused = λ e. let d = h.refused e in (device_text (string_bytes own.device) d.0 explain, d.3, d.4, inr (own, d.0, named, d.1, refl));
-  others = h.others;
-  called = inr (own, named, h.called);
-}
-
--- The configuration or the origin is refused.
-pub history_unnamed : {D : Type 0} (g : Ghosts D) (config : File) (origin : List ℕ) (with_records explain : Bool) (out err err_after : Option (List ℕ)) (text : List ℕ) → IsNoZoneName config origin text → Appends err err_after (line text) → HistoryEnds g [] config origin with_records explain out out err err_after 1
-history_unnamed g config origin with_records explain out err err_after text why said = record {
-  done = λ e. absurd (omega (arith, e));
-  refused = λ _. (text, said, Keeps-refl out, inl why);
-  others = inl (omega arith);
-  called = inl refl;
 }

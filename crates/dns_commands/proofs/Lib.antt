@@ -4,6 +4,7 @@ pub mod Compared
 pub mod Differed
 pub mod DumpedAt
 pub mod Files
+pub mod Framed
 pub mod Historied
 pub mod LoadEnded
 pub mod Made

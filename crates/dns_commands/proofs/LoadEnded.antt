@@ -13,16 +13,15 @@ use Rattle.dns_configuration.specs.declared.files.Fault.{Fault}
 use Rattle.dns_configuration.specs.Faults.{fault_text, is_memory, line}
 use Rattle.dns_configuration.specs.Files.{IsLoadedFrom, loaded_by}
 use Rattle.dns_devices.specs.declared.device_faults.DeviceFault.{DeviceFault}
+use Rattle.dns_commands.specs.Frame.{run_end}
 use Rattle.dns_commands.specs.declared.next_version.Loaded.{Loaded}
 use Rattle.dns_devices.specs.DeviceFaults.{device_text, status_of}
 use Rattle.dns_devices.specs.DeviceCalls.{DeviceCall}
-use Rattle.dns_devices.specs.Stores.{AreCallsOf}
-use Rattle.dns_configuration.specs.Named.{IsNamed, IsNoZoneName}
 use Rattle.dns_commands.specs.Load.{IsLoadTried, IsLoadedAs, IsNotLoaded}
-use Rattle.dns_commands.specs.LoadRun.{IsFileLoadTried, LoadEnds, LoadingEnds, loaded_line, path_blamed}
+use Rattle.dns_commands.specs.LoadRun.{IsFileLoadTried, LoadingEnds, loaded_line, path_blamed}
 
 -- A writer failed or memory was refused.
-pub loading_failed : {D : Type 0} (g : Ghosts D) (calls : List (DeviceCall D)) (own : ZoneSettings) (files : List File) (explain : Bool) (out out_after err err_after : Option (List ℕ)) → IsFileLoadTried g calls files own → LoadingEnds g calls own files explain out out_after err err_after 3
+pub loading_failed : {D : Type 0} (g : Ghosts D) (calls : List (DeviceCall D)) (own : ZoneSettings) (files : List File) (explain : Bool) (out out_after err err_after : Option (List ℕ)) → IsFileLoadTried g calls files own → LoadingEnds g files own (run_end calls explain out out_after err err_after 3)
 loading_failed g calls own files explain out out_after err err_after called = record {
   done = λ e. absurd (omega (arith, e));
   refused = λ e. absurd (omega (arith, e));
@@ -30,16 +29,8 @@ loading_failed g calls own files explain out out_after err err_after called = re
   called = called;
 }
 
-pub load_failed : {D : Type 0} (g : Ghosts D) (calls : List (DeviceCall D)) (config : File) (files : List File) (origin : List ℕ) (explain : Bool) (out out_after err err_after : Option (List ℕ)) → AreCallsOf config origin (IsFileLoadTried g calls files) calls → LoadEnds g calls config files origin explain out out_after err err_after 3
-load_failed g calls config files origin explain out out_after err err_after called = record {
-  done = λ e. absurd (omega (arith, e));
-  refused = λ e. absurd (omega (arith, e));
-  others = inr refl;
-  called = called;
-}
-
 -- The file holds no zone.
-pub file_refused : {D : Type 0} (g : Ghosts D) (own : ZoneSettings) (files : List File) (explain : Bool) (out err err_after : Option (List ℕ)) (path : List ℕ) (fault : Fault) → path ≡ string_bytes own.file → ((is_memory fault ≡ true) ⊎ (loaded_by files own ≡ Err fault)) → is_memory fault ≡ false → Appends err err_after (line (fault_text path fault)) → LoadingEnds g [] own files explain out out err err_after 1
+pub file_refused : {D : Type 0} (g : Ghosts D) (own : ZoneSettings) (files : List File) (explain : Bool) (out err err_after : Option (List ℕ)) (path : List ℕ) (fault : Fault) → path ≡ string_bytes own.file → ((is_memory fault ≡ true) ⊎ (loaded_by files own ≡ Err fault)) → is_memory fault ≡ false → Appends err err_after (line (fault_text path fault)) → LoadingEnds g files own (run_end [] explain out out err err_after 1)
 file_refused g own files explain out err err_after path fault p (inl memory) not_memory said = absurd (let both : true ≡ false = sym memory ∙ not_memory in cc)
 file_refused g own files explain out err err_after path fault p (inr why) not_memory said = record {
   done = λ e. absurd (omega (arith, e));
@@ -54,7 +45,7 @@ tried_in_vain g calls own records fault (inl why) = inr (fault, why)
 tried_in_vain g calls own records fault (inr is) = inl (Err fault, is)
 
 -- The records were not loaded.
-pub records_refused : {D : Type 0} (g : Ghosts D) (calls : List (DeviceCall D)) (own : ZoneSettings) (files : List File) (explain : Bool) (out err err_after : Option (List ℕ)) (path : List ℕ) (zone : Zone) (fault : DeviceFault) → path ≡ path_blamed own fault → IsLoadedFrom files own zone → IsNotLoaded g calls own zone.records fault → status_of fault ≡ 1 → Appends err err_after (line (device_text path fault explain)) → LoadingEnds g calls own files explain out out err err_after 1
+pub records_refused : {D : Type 0} (g : Ghosts D) (calls : List (DeviceCall D)) (own : ZoneSettings) (files : List File) (explain : Bool) (out err err_after : Option (List ℕ)) (path : List ℕ) (zone : Zone) (fault : DeviceFault) → path ≡ path_blamed own fault → IsLoadedFrom files own zone → IsNotLoaded g calls own zone.records fault → status_of fault ≡ 1 → Appends err err_after (line (device_text path fault explain)) → LoadingEnds g files own (run_end calls explain out out err err_after 1)
 records_refused g calls own files explain out err err_after path zone fault p read why status said = record {
   done = λ e. absurd (omega (arith, e));
   refused = λ _. (device_text path fault explain, inr (zone, fault, read, why, status, ap (λ (t : List ℕ). device_text t fault explain) p), said, Keeps-refl out);
@@ -63,28 +54,10 @@ records_refused g calls own files explain out err err_after path zone fault p re
 }
 
 -- They were.
-pub records_loaded : {D : Type 0} (g : Ghosts D) (calls : List (DeviceCall D)) (own : ZoneSettings) (files : List File) (explain : Bool) (out out_after err : Option (List ℕ)) (zone : Zone) (answer : Loaded) → IsLoadedFrom files own zone → IsLoadedAs g calls own zone.records answer → Appends out out_after (loaded_line own answer) → LoadingEnds g calls own files explain out out_after err err 0
+pub records_loaded : {D : Type 0} (g : Ghosts D) (calls : List (DeviceCall D)) (own : ZoneSettings) (files : List File) (explain : Bool) (out out_after err : Option (List ℕ)) (zone : Zone) (answer : Loaded) → IsLoadedFrom files own zone → IsLoadedAs g calls own zone.records answer → Appends out out_after (loaded_line own answer) → LoadingEnds g files own (run_end calls explain out out_after err err 0)
 records_loaded g calls own files explain out out_after err zone answer read is said = record {
   done = λ _. (answer, record { zone = zone; read = read; loaded = is }, said, Keeps-refl err);
   refused = λ e. absurd (omega (arith, e));
   others = inl (omega arith);
   called = inr (zone, read, inl (Ok answer, is));
-}
-
--- What was loaded is the file of the zone of that name.
-pub load_named : {D : Type 0} (g : Ghosts D) (calls : List (DeviceCall D)) (config : File) (files : List File) (origin : List ℕ) (own : ZoneSettings) (explain : Bool) (out out_after err err_after : Option (List ℕ)) (status : ℕ) → IsNamed config origin own → LoadingEnds g calls own files explain out out_after err err_after status → LoadEnds g calls config files origin explain out out_after err err_after status
-load_named g calls config files origin own explain out out_after err err_after status named h = record {
-  done = λ e. let d = h.done e in (own, named, d.0, d.1, d.2, d.3);
-  refused = λ e. let d = h.refused e in (d.0, d.2, d.3, inr (own, named, d.1));
-  others = h.others;
-  called = inr (own, named, h.called);
-}
-
--- The configuration or the origin is refused.
-pub load_unnamed : {D : Type 0} (g : Ghosts D) (config : File) (files : List File) (origin : List ℕ) (explain : Bool) (out err err_after : Option (List ℕ)) (text : List ℕ) → IsNoZoneName config origin text → Appends err err_after (line text) → LoadEnds g [] config files origin explain out out err err_after 1
-load_unnamed g config files origin explain out err err_after text why said = record {
-  done = λ e. absurd (omega (arith, e));
-  refused = λ _. (text, said, Keeps-refl out, inl why);
-  others = inl (omega arith);
-  called = inl refl;
 }

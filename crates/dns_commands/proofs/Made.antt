@@ -24,6 +24,7 @@ use Rattle.dns_store.specs.declared.formatting.FormatError.{FormatError}
 use Rattle.dns_store.specs.declared.formatting.FormatError.TheVariants as unmade
 use Rattle.dns_devices.specs.DeviceFaults.{device_text, fault_of_format, status_of}
 use Rattle.dns_devices.specs.DeviceCalls.{Closed, DeviceCall, Made, Removed}
+use Rattle.dns_commands.specs.Frame.{run_end}
 use Rattle.dns_commands.specs.Init.{AreChosen, AreMade, InitEnds, IsDeviceMade, IsFirstFound, IsFound, IsGiven, IsInitRefused, IsInitTried, IsMakingUndone, IsNotChosen, IsNotMade, MakingEnds, MakingStopsAt, NoneStays, absent, formatted, sectors_of}
 
 -- The first device where there is something already.
@@ -102,7 +103,7 @@ not_formatted g calls own zone blank after unmade.ZoneTooLarge came failed geome
 not_formatted g calls own zone blank after unmade.OutOfMemory came failed geometry large = record { blank = blank; after = after; came = came; why = tt }
 
 -- A writer failed or memory was refused.
-pub making_failed : {D : Type 0} (g : Ghosts D) (calls : List (DeviceCall D)) (settings : List ZoneSettings) (zones : List Zone) (explain : Bool) (out out_after err err_after : Option (List ℕ)) → NoneStays g calls settings zones → MakingEnds g calls settings zones explain out out_after err err_after 3
+pub making_failed : {D : Type 0} (g : Ghosts D) (calls : List (DeviceCall D)) (settings : List ZoneSettings) (zones : List Zone) (explain : Bool) (out out_after err err_after : Option (List ℕ)) → NoneStays g calls settings zones → MakingEnds g settings zones (run_end calls explain out out_after err err_after 3)
 making_failed g calls settings zones explain out out_after err err_after none = record {
   done = λ e. absurd (omega (arith, e));
   refused = λ e. absurd (omega (arith, e));
@@ -110,7 +111,7 @@ making_failed g calls settings zones explain out out_after err err_after none = 
   called = inr none;
 }
 
-pub init_failed : {D : Type 0} (g : Ghosts D) (calls : List (DeviceCall D)) (config : File) (origin : Option (List ℕ)) (files : List File) (explain : Bool) (out out_after err err_after : Option (List ℕ)) → IsInitTried g calls config origin files → InitEnds g calls config origin files explain out out_after err err_after 3
+pub init_failed : {D : Type 0} (g : Ghosts D) (calls : List (DeviceCall D)) (config : File) (origin : Option (List ℕ)) (files : List File) (explain : Bool) (out out_after err err_after : Option (List ℕ)) → IsInitTried g calls config origin files → InitEnds g config origin files (run_end calls explain out out_after err err_after 3)
 init_failed g calls config origin files explain out out_after err err_after tried = record {
   done = λ e. absurd (omega (arith, e));
   refused = λ e. absurd (omega (arith, e));
@@ -119,7 +120,7 @@ init_failed g calls config origin files explain out out_after err err_after trie
 }
 
 -- All devices were made.
-pub making_done : {D : Type 0} (g : Ghosts D) (calls : List (DeviceCall D)) (settings : List ZoneSettings) (zones : List Zone) (explain : Bool) (out out_after err : Option (List ℕ)) → AreMade g calls settings zones → Appends out out_after (flat_map formatted zones) → MakingEnds g calls settings zones explain out out_after err err 0
+pub making_done : {D : Type 0} (g : Ghosts D) (calls : List (DeviceCall D)) (settings : List ZoneSettings) (zones : List Zone) (explain : Bool) (out out_after err : Option (List ℕ)) → AreMade g calls settings zones → Appends out out_after (flat_map formatted zones) → MakingEnds g settings zones (run_end calls explain out out_after err err 0)
 making_done g calls settings zones explain out out_after err h k = record {
   done = λ _. (h, k, Keeps-refl err);
   refused = λ e. absurd (omega (arith, e));
@@ -128,7 +129,7 @@ making_done g calls settings zones explain out out_after err h k = record {
 }
 
 -- A device was not made.
-pub making_refused : {D : Type 0} (g : Ghosts D) (calls : List (DeviceCall D)) (settings : List ZoneSettings) (zones : List Zone) (explain : Bool) (out err err_after : Option (List ℕ)) (path : List ℕ) (fault : DeviceFault) → IsMakingUndone g calls settings zones path fault → status_of fault ≡ 1 → Appends err err_after (line (device_text path fault explain)) → MakingEnds g calls settings zones explain out out err err_after 1
+pub making_refused : {D : Type 0} (g : Ghosts D) (calls : List (DeviceCall D)) (settings : List ZoneSettings) (zones : List Zone) (explain : Bool) (out err err_after : Option (List ℕ)) (path : List ℕ) (fault : DeviceFault) → IsMakingUndone g calls settings zones path fault → status_of fault ≡ 1 → Appends err err_after (line (device_text path fault explain)) → MakingEnds g settings zones (run_end calls explain out out err err_after 1)
 making_refused g calls settings zones explain out err err_after path fault stops status said = record {
   done = λ e. absurd (omega (arith, e));
   refused = λ _. (path, fault, stops, status, Keeps-refl out, said);
@@ -137,7 +138,7 @@ making_refused g calls settings zones explain out err err_after path fault stops
 }
 
 -- Nothing was made or printed, for that fault.
-pub init_refused : {D : Type 0} (g : Ghosts D) (calls : List (DeviceCall D)) (config : File) (origin : Option (List ℕ)) (files : List File) (explain : Bool) (out err err_after : Option (List ℕ)) (text : List ℕ) → IsInitRefused g calls config origin files text explain → IsInitTried g calls config origin files → Appends err err_after (line text) → InitEnds g calls config origin files explain out out err err_after 1
+pub init_refused : {D : Type 0} (g : Ghosts D) (calls : List (DeviceCall D)) (config : File) (origin : Option (List ℕ)) (files : List File) (explain : Bool) (out err err_after : Option (List ℕ)) (text : List ℕ) → IsInitRefused g calls config origin files text explain → IsInitTried g calls config origin files → Appends err err_after (line text) → InitEnds g config origin files (run_end calls explain out out err err_after 1)
 init_refused g calls config origin files explain out err err_after text why tried said = record {
   done = λ e. absurd (omega (arith, e));
   refused = λ _. (text, why, Keeps-refl out, said);
@@ -146,7 +147,7 @@ init_refused g calls config origin files explain out err err_after text why trie
 }
 
 -- All devices were made, or up to one that was not.
-pub init_made : {D : Type 0} (g : Ghosts D) (making : List (DeviceCall D)) (config : File) (origin : Option (List ℕ)) (files : List File) (settings : List ZoneSettings) (zones : List Zone) (explain : Bool) (out out_after err err_after : Option (List ℕ)) (status : ℕ) → IsGiven config origin files settings zones → MakingEnds g making settings zones explain out out_after err err_after status → InitEnds g (map absent settings ++ making) config origin files explain out out_after err err_after status
+pub init_made : {D : Type 0} (g : Ghosts D) (making : List (DeviceCall D)) (config : File) (origin : Option (List ℕ)) (files : List File) (settings : List ZoneSettings) (zones : List Zone) (explain : Bool) (out out_after err err_after : Option (List ℕ)) (status : ℕ) → IsGiven config origin files settings zones → MakingEnds g settings zones (run_end making explain out out_after err err_after status) → InitEnds g config origin files (run_end (map absent settings ++ making) explain out out_after err err_after status)
 init_made {D = D} g making config origin files settings zones explain out out_after err err_after status given h = record {
   done = λ e. let d = h.done e in (settings, zones, given, making, refl, d.0, d.1, d.2);
   refused = λ e. let d = h.refused e in

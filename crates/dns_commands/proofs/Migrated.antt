@@ -19,6 +19,7 @@ use Rattle.dns_configuration.specs.Faults.{fault_text, line}
 use Rattle.dns_configuration.specs.Files.{HoldsConfiguration}
 use Rattle.dns_devices.specs.declared.device_faults.DeviceFault.{DeviceFault}
 use Rattle.dns_devices.specs.DeviceFaults.{device_text, status_of}
+use Rattle.dns_commands.specs.Frame.{run_end}
 use Rattle.dns_commands.specs.Migrate.{AreMigrated, IsMigratedAs, IsMigrationTried, IsNotMigrated, MigrateEnds, MigratingEnds, MigratingStopsAt, migrated}
 use Rattle.dns_devices.specs.DeviceCalls.{DeviceCall}
 
@@ -55,7 +56,7 @@ stops_at {D = D} g calls next (x ∷ xs) (suc n) z path fault printed inside h p
     inr (h.0, h.1, h.2, h.3, h.4 ++ next, ap (λ (t : List (DeviceCall D)). t ++ next) h.5 ∙ append_assoc h.3 h.4 next, h.6, stops_at g h.4 next xs n z path fault h.1 (omega (arith, inside)) h.7 p k)
 
 -- A writer failed or memory was refused.
-pub migrating_failed : {D : Type 0} (g : Ghosts D) (calls : List (DeviceCall D)) (settings : List ZoneSettings) (explain : Bool) (out out_after err err_after : Option (List ℕ)) → IsMigrationTried g calls settings → MigratingEnds g calls settings explain out out_after err err_after 3
+pub migrating_failed : {D : Type 0} (g : Ghosts D) (calls : List (DeviceCall D)) (settings : List ZoneSettings) (explain : Bool) (out out_after err err_after : Option (List ℕ)) → IsMigrationTried g calls settings → MigratingEnds g settings (run_end calls explain out out_after err err_after 3)
 migrating_failed g calls settings explain out out_after err err_after tried = record {
   done = λ e. absurd (omega (arith, e));
   refused = λ e. absurd (omega (arith, e));
@@ -63,7 +64,7 @@ migrating_failed g calls settings explain out out_after err err_after tried = re
   called = tried;
 }
 
-pub migrate_failed : {D : Type 0} (g : Ghosts D) (config : File) (explain : Bool) (out out_after err err_after : Option (List ℕ)) → MigrateEnds g [] config explain out out_after err err_after 3
+pub migrate_failed : {D : Type 0} (g : Ghosts D) (config : File) (explain : Bool) (out out_after err err_after : Option (List ℕ)) → MigrateEnds g config (run_end [] explain out out_after err err_after 3)
 migrate_failed g config explain out out_after err err_after = record {
   done = λ e. absurd (omega (arith, e));
   refused = λ e. absurd (omega (arith, e));
@@ -72,7 +73,7 @@ migrate_failed g config explain out out_after err err_after = record {
 }
 
 -- All devices were migrated.
-pub migrating_done : {D : Type 0} (g : Ghosts D) (calls : List (DeviceCall D)) (settings : List ZoneSettings) (explain : Bool) (out out_after err : Option (List ℕ)) (n : ℕ) (printed : List ℕ) → length settings ≤ n → AreMigrated g calls (take n settings) printed → Appends out out_after printed → MigratingEnds g calls settings explain out out_after err err 0
+pub migrating_done : {D : Type 0} (g : Ghosts D) (calls : List (DeviceCall D)) (settings : List ZoneSettings) (explain : Bool) (out out_after err : Option (List ℕ)) (n : ℕ) (printed : List ℕ) → length settings ≤ n → AreMigrated g calls (take n settings) printed → Appends out out_after printed → MigratingEnds g settings (run_end calls explain out out_after err err 0)
 migrating_done g calls settings explain out out_after err n printed all h k = record {
   done = λ _. (printed, subst (λ (ss : List ZoneSettings). AreMigrated g calls ss printed) (take_all n settings all) h, k, Keeps-refl err);
   refused = λ e. absurd (omega (arith, e));
@@ -81,7 +82,7 @@ migrating_done g calls settings explain out out_after err n printed all h k = re
 }
 
 -- A device was not migrated.
-pub migrating_refused : {D : Type 0} (g : Ghosts D) (calls : List (DeviceCall D)) (settings : List ZoneSettings) (explain : Bool) (out out_after err err_after : Option (List ℕ)) (path : List ℕ) (fault : DeviceFault) (printed : List ℕ) → MigratingStopsAt g calls settings path fault printed → Appends out out_after printed → status_of fault ≡ 1 → Appends err err_after (line (device_text path fault explain)) → MigratingEnds g calls settings explain out out_after err err_after 1
+pub migrating_refused : {D : Type 0} (g : Ghosts D) (calls : List (DeviceCall D)) (settings : List ZoneSettings) (explain : Bool) (out out_after err err_after : Option (List ℕ)) (path : List ℕ) (fault : DeviceFault) (printed : List ℕ) → MigratingStopsAt g calls settings path fault printed → Appends out out_after printed → status_of fault ≡ 1 → Appends err err_after (line (device_text path fault explain)) → MigratingEnds g settings (run_end calls explain out out_after err err_after 1)
 migrating_refused g calls settings explain out out_after err err_after path fault printed stops shown status said = record {
   done = λ e. absurd (omega (arith, e));
   refused = λ _. (path, fault, printed, stops, status, shown, said);
@@ -90,7 +91,7 @@ migrating_refused g calls settings explain out out_after err err_after path faul
 }
 
 -- The configuration is refused.
-pub configuration_refused : {D : Type 0} (g : Ghosts D) (config : File) (fault : Fault) (explain : Bool) (out err err_after : Option (List ℕ)) → HoldsConfiguration (option_copied config.octets) (Err fault) → Appends err err_after (line (fault_text config.path.now fault)) → MigrateEnds g [] config explain out out err err_after 1
+pub configuration_refused : {D : Type 0} (g : Ghosts D) (config : File) (fault : Fault) (explain : Bool) (out err err_after : Option (List ℕ)) → HoldsConfiguration (option_copied config.octets) (Err fault) → Appends err err_after (line (fault_text config.path.now fault)) → MigrateEnds g config (run_end [] explain out out err err_after 1)
 configuration_refused g config fault explain out err err_after holds said = record {
   done = λ e. absurd (omega (arith, e));
   refused = λ _. ([], fault_text config.path.now fault, inl (fault, holds, refl, refl), Appends-nil out, said);
@@ -99,7 +100,7 @@ configuration_refused g config fault explain out err err_after holds said = reco
 }
 
 -- All devices were migrated, or up to one that was not.
-pub migrate_ran : {D : Type 0} (g : Ghosts D) (calls : List (DeviceCall D)) (config : File) (c : Configuration) (explain : Bool) (out out_after err err_after : Option (List ℕ)) (status : ℕ) → HoldsConfiguration (option_copied config.octets) (Ok c) → MigratingEnds g calls c.zones.items explain out out_after err err_after status → MigrateEnds g calls config explain out out_after err err_after status
+pub migrate_ran : {D : Type 0} (g : Ghosts D) (calls : List (DeviceCall D)) (config : File) (c : Configuration) (explain : Bool) (out out_after err err_after : Option (List ℕ)) (status : ℕ) → HoldsConfiguration (option_copied config.octets) (Ok c) → MigratingEnds g c.zones.items (run_end calls explain out out_after err err_after status) → MigrateEnds g config (run_end calls explain out out_after err err_after status)
 migrate_ran g calls config c explain out out_after err err_after status holds h = record {
   done = λ e. (c, holds, h.done e);
   refused = λ e. let d = h.refused e in

@@ -1,10 +1,9 @@
 -- How a run of a script over the zones of a configuration ends.
-use Rattle.std.proofs.Common.{◌≡◌, ℕ, zero, suc, Bool, true, false, inl, inr, List, [], ◌∷◌, length, map, Option, Result, Ok, Err, IfOk, refl, sym, ap, subst, ◌∙◌, arith, ◌<◌, get_or}
-use Rattle.std.specs.Prelude.{◌⊎◌, ◌↔◌, Some, IsTrue, slice_get}
+use Rattle.std.proofs.Common.{◌≡◌, ℕ, suc, Bool, true, false, inl, inr, List, [], ◌∷◌, length, map, Option, Result, Ok, Err, IfOk, refl, sym, ap, subst, ◌∙◌, arith}
+use Rattle.std.specs.Prelude.{◌⊎◌, ◌↔◌, IsTrue}
 use Rattle.std.specs.Bool.{MatchBool}
 use Rattle.std.specs.List.{AllZip}
 use Rattle.std.specs.Option.{option_copied}
-use Rattle.std.specs.String.{string_bytes}
 use Rattle.std.specs.Io.KnownBytes.{Appends}
 use Rattle.std.proofs.KnownBytes.{Keeps-refl}
 use Rattle.std.specs.declared.net.ip_addr.IpAddr.{IpAddr}
@@ -19,12 +18,10 @@ use Rattle.dns_configuration.specs.declared.configuration.Configuration.{Configu
 use Rattle.dns_configuration.specs.declared.configuration.ZoneSettings.{ZoneSettings}
 use Rattle.dns_configuration.specs.declared.files.File.{File}
 use Rattle.dns_configuration.specs.declared.files.Fault.{Fault}
+use Rattle.dns_configuration.specs.declared.files.Fault.TheVariants.{Syntax}
 use Rattle.dns_configuration.specs.Faults.{is_memory, line, fault_text}
 use Rattle.dns_configuration.specs.Files.{HoldsConfiguration, IsFirstFault, IsLoadedFrom}
 use Rattle.dns_configuration.specs.Known.{IsSettingOf, origins_of}
-use Rattle.dns_store.specs.declared.formatting.FormatError.{FormatError}
-use Rattle.dns_devices.specs.DeviceFaults.{IsDeviceTold, fault_of_format}
-use Rattle.dns_devices.proofs.Told.{device_told}
 use Rattle.dns_sectors.specs.Device.{Content}
 use Rattle.dns_sectors.specs.declared.device.Sectors.{Ghosts}
 use Rattle.dns_sectors.specs.declared.memory.Keep as told
@@ -32,78 +29,20 @@ use Rattle.dns_primary.proofs.Begun.{fresh_machine}
 use Rattle.dns_replay.specs.Crashes.{IsCrash}
 use Rattle.dns_replay.specs.Scripts.{Crash}
 use Rattle.dns_replay.specs.declared.run.Ending.TheVariants as ending
-use Rattle.dns_commands.specs.Replay.{Begins, IsFreshZone, IsScriptFault, IsUnmadeTold, Ran, ReplayEnds, ScriptEnds, device_paths}
+use Rattle.dns_commands.specs.CheckConfiguration.{HasSectors}
+use Rattle.dns_commands.specs.Replay.{Begins, IsFreshZone, Ran, ReplayEnds, ScriptEnds}
 
--- A script that can't be read, or whose line is no command.
-pub script_refused : {E : Type 0} (origins : List Labels) (crash : Crash) (devices : List (List ℕ)) (m : Machine) (script : File) (fault : Fault) (out out_after err err_after : Option (List ℕ)) (r : Result ℕ E) → is_memory fault ≡ false → IsScriptFault origins crash m (option_copied script.octets) fault out out_after → IfOk r (λ status. MatchBool (is_memory fault) (status ≡ 3) ((status ≡ 1) × Appends err err_after (line (fault_text script.path.now fault)))) → IfOk r (ScriptEnds origins crash devices m script out out_after err err_after)
-script_refused origins crash devices m script fault out out_after err err_after (Err e) is h k = tt
-script_refused origins crash devices m script fault out out_after err err_after (Ok status) is h k =
-    let said : (status ≡ 1) × Appends err err_after (line (fault_text script.path.now fault)) = subst (λ (b : Bool). MatchBool b (status ≡ 3) ((status ≡ 1) × Appends err err_after (line (fault_text script.path.now fault)))) is k in
-    record {
-      done = λ e. absurd (omega (arith, e, said.0));
-      refused = λ _. inl (record { fault = fault; is = h; told = said.1 });
-      others = inl (omega (arith, said.0));
-    }
-
-pub refused_over : {E : Type 0} (origins : List Labels) (crash : Crash) (devices : List (List ℕ)) (zones : List Zone) (known : List primary.ZoneSpec) (script : File) (fault : Fault) (out out_after err err_after : Option (List ℕ)) (r : Result ℕ E) → is_memory fault ≡ false
-    → ((m : Machine) → fresh.IsFresh zones known m → IsScriptFault origins crash m (option_copied script.octets) fault out out_after) → IfOk r (λ status. MatchBool (is_memory fault) (status ≡ 3) ((status ≡ 1) × Appends err err_after (line (fault_text script.path.now fault))))
-    → IfOk r (λ status. (m : Machine) → fresh.IsFresh zones known m → ScriptEnds origins crash devices m script out out_after err err_after status)
-refused_over origins crash devices zones known script fault out out_after err err_after (Err e) is h k = tt
-refused_over {E = E} origins crash devices zones known script fault out out_after err err_after (Ok status) is h k = λ m f. script_refused {E = E} origins crash devices m script fault out out_after err err_after (Ok status) is (h m f) k
-
--- A script whose lines were all run.
-pub script_done : (origins : List Labels) (crash : Crash) (devices : List (List ℕ)) (m : Machine) (script : File) (out out_after err : Option (List ℕ)) → Ran origins crash m ending.Done (option_copied script.octets) out out_after → ScriptEnds origins crash devices m script out out_after err err 0
-script_done origins crash devices m script out out_after err ran = record {
-  done = λ _. (ran, Keeps-refl err);
-  refused = λ e. absurd (omega (arith, e));
-  others = inl (omega arith);
-}
-
--- One that ended where a store was refused.
-pub script_ended : (origins : List Labels) (crash : Crash) (devices : List (List ℕ)) (m : Machine) (script : File) (out out_after err : Option (List ℕ)) → Ran origins crash m ending.Refused (option_copied script.octets) out out_after → ScriptEnds origins crash devices m script out out_after err err 1
-script_ended origins crash devices m script out out_after err ran = record {
-  done = λ e. absurd (omega (arith, e));
-  refused = λ _. inr (inl (ran, Keeps-refl err));
-  others = inl (omega arith);
-}
-
--- One whose run failed.
-pub script_failed : (origins : List Labels) (crash : Crash) (devices : List (List ℕ)) (m : Machine) (script : File) (out out_after err err_after : Option (List ℕ)) (status : ℕ) → status ≡ 3 → ScriptEnds origins crash devices m script out out_after err err_after status
-script_failed origins crash devices m script out out_after err err_after status e = record {
-  done = λ d. absurd (omega (arith, e, d));
-  refused = λ d. absurd (omega (arith, e, d));
-  others = inr e;
-}
-
--- One that was not begun, since no store could be made.
-pub script_unmade : (origins : List Labels) (crash : Crash) (devices : List (List ℕ)) (m : Machine) (script : File) (out err err_after : Option (List ℕ)) (status : ℕ) → (status ≡ 3) ⊎ ((status ≡ 1) × IsUnmadeTold devices err err_after) → ScriptEnds origins crash devices m script out out err err_after status
-script_unmade origins crash devices m script out err err_after status (inl e) = script_failed origins crash devices m script out out err err_after status e
-script_unmade origins crash devices m script out err err_after status (inr h) = record {
-  done = λ d. absurd (omega (arith, h.0, d));
-  refused = λ _. inr (inr (h.1, Keeps-refl out));
+-- A script with a line that is no command.
+pub syntax_over : {E : Type 0} (origins : List Labels) (crash : Crash) (settings : List ZoneSettings) (zones : List Zone) (known : List primary.ZoneSpec) (script : File) (number : ℕ) (out out_after err err_after : Option (List ℕ)) (r : Result ℕ E) → AllZip HasSectors settings zones
+    → ((m : Machine) → fresh.IsFresh zones known m → Ran origins crash m (ending.Syntax number) (option_copied script.octets) out out_after)
+    → IfOk r (λ status. MatchBool (is_memory (Syntax number)) (status ≡ 3) ((status ≡ 1) × Appends err err_after (line (fault_text script.path.now (Syntax number)))))
+    → IfOk r (λ status. (m : Machine) → fresh.IsFresh zones known m → ScriptEnds origins crash settings zones m script out out_after err err_after status)
+syntax_over origins crash settings zones known script number out out_after err err_after (Err e) fit ran h = tt
+syntax_over origins crash settings zones known script number out out_after err err_after (Ok status) fit ran h = λ m f. record {
+  done = λ e. absurd (omega (arith, e, h.0));
+  refused = λ _. inr (inr (fit, inl (number, ran m f, h.1)));
   others = inl (omega (arith, h.0));
 }
-
-pub unmade_over : {E : Type 0} (origins : List Labels) (crash : Crash) (devices : List (List ℕ)) (zones : List Zone) (known : List primary.ZoneSpec) (script : File) (out out_after err err_after : Option (List ℕ)) (r : Result ℕ E) → out_after ≡ out
-    → IfOk r (λ status. (status ≡ 3) ⊎ ((status ≡ 1) × IsUnmadeTold devices err err_after))
-    → IfOk r (λ status. (m : Machine) → fresh.IsFresh zones known m → ScriptEnds origins crash devices m script out out_after err err_after status)
-unmade_over origins crash devices zones known script out out_after err err_after (Err e) same h = tt
-unmade_over origins crash devices zones known script out out_after err err_after (Ok status) same h = λ m f.
-    subst (λ (o : Option (List ℕ)). ScriptEnds origins crash devices m script out o err err_after status) (sym same) (script_unmade origins crash devices m script out err err_after status h)
-
--- What is told of a store that can't be made.
-pub unmade_told : {E : Type 0} (devices : List (List ℕ)) (place : ℕ) (path : List ℕ) (error : FormatError) (err err_after : Option (List ℕ)) (r : Result ℕ E) → slice_get devices place ≡ Some path
-    → IfOk r (λ status. IsDeviceTold path (fault_of_format error) false err err_after status)
-    → IfOk r (λ status. (status ≡ 3) ⊎ ((status ≡ 1) × IsUnmadeTold devices err err_after))
-unmade_told devices place path error err err_after r is h =
-    device_told (λ (status : ℕ). (status ≡ 3) ⊎ ((status ≡ 1) × IsUnmadeTold devices err err_after)) path (fault_of_format error) false err err_after r h
-    (inl refl) (λ _ said. inr (refl, record { place = place; path = path; is = is; error = error; told = said }))
-
--- The path of the device of the zone there.
-pub device_at : (own : List ZoneSettings) (place : ℕ) (zone : ZoneSettings) → place < length own → slice_get (device_paths own) place ≡ Some (string_bytes (get_or own place zone).device)
-device_at [] place zone inside = absurd (omega (arith, inside))
-device_at (z ∷ own) zero zone inside = refl
-device_at (z ∷ own) (suc place) zone inside = device_at own place zone (omega (arith, inside))
 
 -- The names of zones that were loaded.
 pub loaded_names : (files : List File) (settings : List ZoneSettings) (zones : List Zone) → AllZip (IsLoadedFrom files) settings zones → map (λ (z : Zone). z.apex) zones ≡ origins_of settings
@@ -179,11 +118,11 @@ begun files settings known zones h k =
     let m = fresh_machine zones known (as_many (IsLoadedFrom files) IsSettingOf settings zones known h k) in
     (m.0, record { zones_are = begun_zones files settings known zones m.0.zones h k m.1.zones_are; waiting = m.1.waiting; connections = m.1.connections })
 
-pub script_ran : {D E : Type 0} (g : Ghosts D) (kept : D → told.Keep → Content) (config : File) (files : List File) (script : File) (c : Configuration) (zones : List Zone) (known : List primary.ZoneSpec) (devices : List (List ℕ)) (out out_after err err_after : Option (List ℕ)) (r : Result ℕ E)
-    → HoldsConfiguration (option_copied config.octets) (Ok c) → AllZip (IsLoadedFrom files) c.zones.items zones → AllZip IsSettingOf c.zones.items known → devices ≡ device_paths c.zones.items
-    → IfOk r (λ status. (m : Machine) → fresh.IsFresh zones known m → ScriptEnds (map (λ (z : Zone). z.apex) zones) (IsCrash g kept (map (λ (z : Zone). z.apex) zones) known) devices m script out out_after err err_after status) → IfOk r (ReplayEnds g kept config files script out out_after err err_after)
-script_ran g kept config files script c zones known devices out out_after err err_after (Err e) holds loaded settings same h = tt
-script_ran g kept config files script c zones known devices out out_after err err_after (Ok status) holds loaded settings same h = inr (inl (record {
+pub script_ran : {D E : Type 0} (g : Ghosts D) (kept : D → told.Keep → Content) (config : File) (files : List File) (script : File) (c : Configuration) (zones : List Zone) (known : List primary.ZoneSpec) (settings : List ZoneSettings) (out out_after err err_after : Option (List ℕ)) (r : Result ℕ E)
+    → HoldsConfiguration (option_copied config.octets) (Ok c) → AllZip (IsLoadedFrom files) c.zones.items zones → AllZip IsSettingOf c.zones.items known → settings ≡ c.zones.items
+    → IfOk r (λ status. (m : Machine) → fresh.IsFresh zones known m → ScriptEnds (map (λ (z : Zone). z.apex) zones) (IsCrash g kept (map (λ (z : Zone). z.apex) zones) known) settings zones m script out out_after err err_after status) → IfOk r (ReplayEnds g kept config files script out out_after err err_after)
+script_ran g kept config files script c zones known own out out_after err err_after (Err e) holds loaded settings same h = tt
+script_ran g kept config files script c zones known own out out_after err err_after (Ok status) holds loaded settings same h = inr (inl (record {
   configuration = c;
   zones = zones;
   described = holds;
@@ -192,8 +131,8 @@ script_ran g kept config files script c zones known devices out out_after err er
   settings = settings;
   begins = begun files c.zones.items known zones loaded settings;
   ends = λ m b.
-      subst (λ (ns : List Labels). ScriptEnds ns (IsCrash g kept ns known) (device_paths c.zones.items) m script out out_after err err_after status) (loaded_names files c.zones.items zones loaded) (
-      subst (λ (ds : List (List ℕ)). ScriptEnds (map (λ (z : Zone). z.apex) zones) (IsCrash g kept (map (λ (z : Zone). z.apex) zones) known) ds m script out out_after err err_after status) same (h m (is_fresh files c.zones.items known zones m loaded settings b)));
+      subst (λ (ns : List Labels). ScriptEnds ns (IsCrash g kept ns known) c.zones.items zones m script out out_after err err_after status) (loaded_names files c.zones.items zones loaded) (
+      subst (λ (ss : List ZoneSettings). ScriptEnds (map (λ (z : Zone). z.apex) zones) (IsCrash g kept (map (λ (z : Zone). z.apex) zones) known) ss zones m script out out_after err err_after status) same (h m (is_fresh files c.zones.items known zones m loaded settings b)));
 }))
 
 -- A master file that holds no zone is told.

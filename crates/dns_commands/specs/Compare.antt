@@ -24,8 +24,8 @@ use Rattle.dns_devices.specs.declared.device_faults.DeviceFault.{DeviceFault}
 use Rattle.dns_devices.specs.declared.device_faults.DeviceFault.TheVariants.{NoRoom}
 use Rattle.dns_devices.specs.DeviceFaults.{device_text, status_of}
 use Rattle.dns_devices.specs.DeviceCalls.{DeviceCall}
-use Rattle.dns_devices.specs.Stores.{AreCallsOf, IsNotShown, IsOpenedAndClosed, LeavesKept, own_shape}
-use Rattle.dns_configuration.specs.Named.{IsNamed, IsNoZoneName}
+use Rattle.dns_devices.specs.Stores.{IsNotShown, IsOpenedAndClosed, LeavesKept, own_shape}
+use Rattle.dns_commands.specs.Frame.{Ended, EndsForNamed}
 use Rattle.dns_commands.specs.Load.{IsChangeTo}
 use Rattle.dns_commands.specs.LoadRun.{path_blamed}
 
@@ -80,13 +80,13 @@ pub record IsCompared {D : Type 0} (g : Ghosts D) (calls : List (DeviceCall D)) 
       → LeavesOnly g.moment g.left_since device after (OpensAsPossible g (own_shape own) device)
 
 -- The change from the newest version that the device keeps to these records.
-abbrev pub IsDifference : {D : Type 0} → Ghosts D → List (DeviceCall D) → ZoneSettings → List Record → Option Change
-    → Type 0
+abbrev pub IsDifference : {D : Type 0} → Ghosts D → List (DeviceCall D) → ZoneSettings → List Record
+    → Option Change → Type 0
 IsDifference g calls own records change = IsCompared g calls own records (Ok change)
 
 -- Why there is none: the device shows no zone, or the change is refused.
-abbrev pub HasNoDifference : {D : Type 0} → Ghosts D → List (DeviceCall D) → ZoneSettings → List Record → DeviceFault
-    → Type 0
+abbrev pub HasNoDifference : {D : Type 0} → Ghosts D → List (DeviceCall D) → ZoneSettings → List Record
+    → DeviceFault → Type 0
 HasNoDifference g calls own records fault =
     IsNotShown g calls own fault ⊎ IsCompared g calls own records (Err fault)
 
@@ -110,8 +110,8 @@ pub record IsFileCompared {D : Type 0} (g : Ghosts D) (calls : List (DeviceCall 
   pub differs : IsDifference g calls own zone.records change
 
 -- Why a zone's master file was not compared, and the text that says so.
-abbrev pub IsFileNotCompared : {D : Type 0} → Ghosts D → List (DeviceCall D) → ZoneSettings → List File → Bool → List ℕ
-    → Type 0
+abbrev pub IsFileNotCompared : {D : Type 0} → Ghosts D → List (DeviceCall D) → ZoneSettings → List File → Bool
+    → List ℕ → Type 0
 IsFileNotCompared g calls own files explain text =
     ((fault : Fault) × (loaded_by files own ≡ Err fault) × (text ≡ fault_text (string_bytes own.file) fault))
     ⊎ ((zone : Zone) × (fault : DeviceFault) × IsLoadedFrom files own zone
@@ -120,31 +120,20 @@ IsFileNotCompared g calls own files explain text =
 
 -- How the comparison of a zone's master file ends. With status 3 the device can't be had, a writer failed or
 -- memory was refused.
-pub record ComparingEnds {D : Type 0} (g : Ghosts D) (calls : List (DeviceCall D)) (own : ZoneSettings)
-    (files : List File) (explain : Bool) (out out_after err err_after : Option (List ℕ)) (status : ℕ)
+pub record ComparingEnds {D : Type 0} (g : Ghosts D) (files : List File) (own : ZoneSettings)
+    (e : Ended (DeviceCall D))
     : Type 0 where
-  pub done : status ≡ 0
-      → (change : Option Change) × IsFileCompared g calls own files change
-      × Appends out out_after (difference_text own change) × Keeps err err_after
-  pub refused : status ≡ 1
-      → (text : List ℕ) × IsFileNotCompared g calls own files explain text
-      × Appends err err_after (line text) × Keeps out out_after
-  pub others : status ≤ 1 ⊎ (status ≡ 3)
-  pub called : IsFileTried g calls files own
+  pub done : e.status ≡ 0
+      → (change : Option Change) × IsFileCompared g e.calls own files change
+      × Appends e.out e.out_after (difference_text own change) × Keeps e.err e.err_after
+  pub refused : e.status ≡ 1
+      → (text : List ℕ) × IsFileNotCompared g e.calls own files e.explain text
+      × Appends e.err e.err_after (line text) × Keeps e.out e.out_after
+  pub others : e.status ≤ 1 ⊎ (e.status ≡ 3)
+  pub called : IsFileTried g e.calls files own
 
--- How a run of `load --dry-run` ends. With status 3 the device can't be had, a writer failed or memory was
--- refused. However it ends, nothing was done but to look into the device of the zone that is named.
-pub record ComparisonEnds {D : Type 0} (g : Ghosts D) (calls : List (DeviceCall D)) (config : File) (files : List File)
-    (origin : List ℕ) (explain : Bool) (out out_after err err_after : Option (List ℕ)) (status : ℕ)
-    : Type 0 where
-  pub done : status ≡ 0
-      → (own : ZoneSettings) × IsNamed config origin own
-      × (change : Option Change) × IsFileCompared g calls own files change
-      × Appends out out_after (difference_text own change) × Keeps err err_after
-  pub refused : status ≡ 1
-      → (text : List ℕ) × Appends err err_after (line text) × Keeps out out_after
-      × (IsNoZoneName config origin text
-      ⊎ ((own : ZoneSettings) × IsNamed config origin own
-      × IsFileNotCompared g calls own files explain text))
-  pub others : status ≤ 1 ⊎ (status ≡ 3)
-  pub called : AreCallsOf config origin (IsFileTried g calls files) calls
+-- How a run of `load --dry-run` ends. However it ends, nothing was done but to look into the device of the
+-- zone that is named.
+abbrev pub ComparisonEnds : {D : Type 0} → Ghosts D → File → List File → List ℕ → Ended (DeviceCall D)
+    → Type 0
+ComparisonEnds g config files origin e = EndsForNamed config origin (ComparingEnds g files) e

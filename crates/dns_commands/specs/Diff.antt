@@ -15,14 +15,14 @@ use Rattle.dns_store.specs.Versions.{Opened, Versions, newest_after}
 use Rattle.dns_configuration.specs.declared.configuration.ZoneSettings.{ZoneSettings}
 use Rattle.dns_configuration.specs.declared.files.File.{File}
 use Rattle.dns_configuration.specs.Faults.{line}
-use Rattle.dns_configuration.specs.Named.{IsNamed, IsNoZoneName}
 use Rattle.dns_devices.specs.declared.device_faults.DeviceFault.{DeviceFault}
 use Rattle.dns_devices.specs.declared.device_faults.DeviceFault.TheVariants.{OutOfMemory}
 use Rattle.dns_devices.specs.DeviceFaults.{device_text, status_of}
 use Rattle.dns_devices.specs.DeviceCalls.{DeviceCall}
-use Rattle.dns_devices.specs.Stores.{AreCallsOf, IsNotShown}
+use Rattle.dns_devices.specs.Stores.{IsNotShown}
 use Rattle.dns_commands.specs.Compare.{change_lines, signed_lines}
 use Rattle.dns_commands.specs.DumpAt.{IsAnswerFor, IsChosenFrom, unfound_text}
+use Rattle.dns_commands.specs.Frame.{Ended, EndsForNamed}
 use Rattle.dns_commands.specs.History.{IsSeenAs}
 
 -- The change from one version to another, of which there is one; or none, exactly if they have the same
@@ -64,21 +64,21 @@ IsMissing A from to serial =
 
 -- The difference of two versions: the change, or the serial that no version has. If there is neither, memory
 -- was refused.
-abbrev pub IsDifference : (ℕ → Result (Option Zone) DeviceFault → Type 0) → Zone → ℕ → Option ℕ → Answer
+abbrev pub IsDiffAnswer : (ℕ → Result (Option Zone) DeviceFault → Type 0) → Zone → ℕ → Option ℕ → Answer
     → Type 0
-IsDifference A newest from to (Ok (Ok change)) = IsBetween A newest from to change
-IsDifference A newest from to (Ok (Err serial)) = IsMissing A from to serial
-IsDifference A newest from to (Err fault) = fault ≡ OutOfMemory
+IsDiffAnswer A newest from to (Ok (Ok change)) = IsBetween A newest from to change
+IsDiffAnswer A newest from to (Ok (Err serial)) = IsMissing A from to serial
+IsDiffAnswer A newest from to (Err fault) = fault ≡ OutOfMemory
 
 -- ... of the versions from a base on, to which these changes lead.
 abbrev pub IsDifferenceFrom : Zone → List Change → Zone → Versions → ℕ → Option ℕ → Answer → Type 0
 IsDifferenceFrom base changes newest vs from to result =
-    IsDifference (λ serial r. IsChosenFrom base changes newest vs serial r) newest from to result
+    IsDiffAnswer (λ serial r. IsChosenFrom base changes newest vs serial r) newest from to result
 
 -- ... of the versions of what a store opens as.
 abbrev pub IsDifferenceIn : ZoneSettings → ℕ → Option ℕ → Answer → Opened → Type 0
 IsDifferenceIn own from to result o =
-    IsDifference (λ serial r. IsAnswerFor own serial r o)
+    IsDiffAnswer (λ serial r. IsAnswerFor own serial r o)
     (record { apex = own.origin; records = newest_after o.loaded o.versions }) from to result
 
 -- The change from one version to another one of them, or to the newest.
@@ -96,15 +96,15 @@ abbrev pub IsDiffed : {D : Type 0} → Ghosts D → List (DeviceCall D) → Zone
 IsDiffed g calls own from to result = IsSeenAs g calls own (IsDifferenceIn own from to result)
 
 -- ... with this change, or without a version that has the serial.
-abbrev pub IsFound : {D : Type 0} → Ghosts D → List (DeviceCall D) → ZoneSettings → ℕ → Option ℕ
+abbrev pub HasDiff : {D : Type 0} → Ghosts D → List (DeviceCall D) → ZoneSettings → ℕ → Option ℕ
     → Result (Option Change) ℕ → Type 0
-IsFound g calls own from to found = IsDiffed g calls own from to (Ok found)
+HasDiff g calls own from to found = IsDiffed g calls own from to (Ok found)
 
 -- Why there is no answer: the device shows no version; or memory was refused, or the device does not keep
 -- what was written.
-abbrev pub HasNoDifference : {D : Type 0} → Ghosts D → List (DeviceCall D) → ZoneSettings → ℕ → Option ℕ
+abbrev pub HasNoDiff : {D : Type 0} → Ghosts D → List (DeviceCall D) → ZoneSettings → ℕ → Option ℕ
     → DeviceFault → Type 0
-HasNoDifference g calls own from to fault =
+HasNoDiff g calls own from to fault =
     IsNotShown g calls own fault ⊎ ((status_of fault ≡ 3) × IsDiffed g calls own from to (Err fault))
 
 -- The device of the zone was looked into, with an answer or without one.
@@ -147,38 +147,26 @@ abbrev pub IsNotDiffed : {D : Type 0} → Ghosts D → List (DeviceCall D) → Z
 IsNotDiffed g calls own from to explain text =
     ((fault : DeviceFault) × IsNotShown g calls own fault × (status_of fault ≡ 1)
     × (text ≡ device_text (string_bytes own.device) fault explain))
-    ⊎ ((serial : ℕ) × IsFound g calls own from to (Err serial) × (text ≡ unfound_text serial explain))
+    ⊎ ((serial : ℕ) × HasDiff g calls own from to (Err serial) × (text ≡ unfound_text serial explain))
 
 -- How the comparison of two versions of a device ends: the change is printed, or why there is none is
 -- reported. With status 3 the device can't be had, a writer failed or memory was refused. The calls are the
 -- same however it ends.
-pub record DiffingEnds {D : Type 0} (g : Ghosts D) (calls : List (DeviceCall D)) (own : ZoneSettings)
-    (from : ℕ) (to : Option ℕ) (as_update explain : Bool) (out out_after err err_after : Option (List ℕ))
-    (status : ℕ)
+pub record DiffingEnds {D : Type 0} (g : Ghosts D) (from : ℕ) (to : Option ℕ) (as_update : Bool)
+    (own : ZoneSettings) (e : Ended (DeviceCall D))
     : Type 0 where
-  pub done : status ≡ 0
-      → (change : Option Change) × IsFound g calls own from to (Ok change)
-      × Appends out out_after (diff_text as_update own change) × Keeps err err_after
-  pub refused : status ≡ 1
-      → (text : List ℕ) × IsNotDiffed g calls own from to explain text
-      × Appends err err_after (line text) × Keeps out out_after
-  pub others : status ≤ 1 ⊎ (status ≡ 3)
-  pub called : IsDiffTried g calls from to own
+  pub done : e.status ≡ 0
+      → (change : Option Change) × HasDiff g e.calls own from to (Ok change)
+      × Appends e.out e.out_after (diff_text as_update own change) × Keeps e.err e.err_after
+  pub refused : e.status ≡ 1
+      → (text : List ℕ) × IsNotDiffed g e.calls own from to e.explain text
+      × Appends e.err e.err_after (line text) × Keeps e.out e.out_after
+  pub others : e.status ≤ 1 ⊎ (e.status ≡ 3)
+  pub called : IsDiffTried g e.calls from to own
 
--- How a run of `diff` ends. With status 3 the device can't be had, a writer failed or memory was refused.
--- However it ends, nothing was done but to look into the device of the zone that is named, if one was named.
-pub record DiffEnds {D : Type 0} (g : Ghosts D) (calls : List (DeviceCall D)) (config : File)
-    (origin : List ℕ) (from : ℕ) (to : Option ℕ) (as_update explain : Bool)
-    (out out_after err err_after : Option (List ℕ)) (status : ℕ)
-    : Type 0 where
-  pub done : status ≡ 0
-      → (own : ZoneSettings) × (change : Option Change) × IsNamed config origin own
-      × IsFound g calls own from to (Ok change)
-      × Appends out out_after (diff_text as_update own change) × Keeps err err_after
-  pub refused : status ≡ 1
-      → (text : List ℕ) × Appends err err_after (line text) × Keeps out out_after
-      × (IsNoZoneName config origin text
-      ⊎ ((own : ZoneSettings) × IsNamed config origin own
-      × IsNotDiffed g calls own from to explain text))
-  pub others : status ≤ 1 ⊎ (status ≡ 3)
-  pub called : AreCallsOf config origin (IsDiffTried g calls from to) calls
+-- How a run of `diff` ends. However it ends, nothing was done but to look into the device of the zone that is
+-- named, if one was named.
+abbrev pub DiffEnds : {D : Type 0} → Ghosts D → File → List ℕ → ℕ → Option ℕ → Bool → Ended (DeviceCall D)
+    → Type 0
+DiffEnds g config origin from to as_update e =
+    EndsForNamed config origin (DiffingEnds g from to as_update) e

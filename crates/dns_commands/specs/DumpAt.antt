@@ -14,12 +14,12 @@ use Rattle.dns_transfer.specs.Form.{Incremental, form_of}
 use Rattle.dns_configuration.specs.declared.configuration.ZoneSettings.{ZoneSettings}
 use Rattle.dns_configuration.specs.declared.files.File.{File}
 use Rattle.dns_configuration.specs.Faults.{line}
-use Rattle.dns_configuration.specs.Named.{IsNamed, IsNoZoneName}
 use Rattle.dns_devices.specs.declared.device_faults.DeviceFault.{DeviceFault}
 use Rattle.dns_devices.specs.declared.device_faults.DeviceFault.TheVariants.{OutOfMemory}
 use Rattle.dns_devices.specs.DeviceFaults.{device_text, status_of}
 use Rattle.dns_devices.specs.DeviceCalls.{DeviceCall}
-use Rattle.dns_devices.specs.Stores.{AreCallsOf, IsNotShown}
+use Rattle.dns_devices.specs.Stores.{IsNotShown}
+use Rattle.dns_commands.specs.Frame.{Ended, EndsForNamed}
 use Rattle.dns_commands.specs.History.{IsSeenAs, changes_after, version_in}
 
 -- The newest version has another serial, and an IXFR from this one is answered by these changes (RFC 1995 4).
@@ -29,7 +29,7 @@ pub record IsIncremental (newest : List Record) (changes : List Change) (serial 
   pub form : form_of (serial_in (soas newest)) changes (Some serial) ≡ Incremental left
 
 -- No journalled version has the serial: an IXFR from it is answered by no changes.
-pub record HasNone (newest : List Record) (changes : List Change) (serial : ℕ) : Type 0 where
+pub record HasNoVersion (newest : List Record) (changes : List Change) (serial : ℕ) : Type 0 where
   pub other : serial_in (soas newest) ≡ serial → ⊥
   pub form : (left : List Change) → form_of (serial_in (soas newest)) changes (Some serial) ≡ Incremental left
       → ⊥
@@ -42,7 +42,7 @@ IsChosenFrom base changes newest vs serial (Ok (Some zone)) =
     ((zone ≡ newest) × (serial_in (soas newest.records) ≡ serial))
     ⊎ ((n : ℕ) × (n < length changes) × IsIncremental newest.records changes serial (drop n changes)
     × (zone ≡ record { apex = base.apex; records = newest_after base.records (take n vs) }))
-IsChosenFrom base changes newest vs serial (Ok None) = HasNone newest.records changes serial
+IsChosenFrom base changes newest vs serial (Ok None) = HasNoVersion newest.records changes serial
 IsChosenFrom base changes newest vs serial (Err fault) = fault ≡ OutOfMemory
 
 -- The zone is the version with that number and that serial of what a store opens as: it is the newest one, or
@@ -60,7 +60,7 @@ pub record IsVersionWith (own : ZoneSettings) (serial : ℕ) (o : Opened) (zone 
 abbrev pub IsAnswerFor : ZoneSettings → ℕ → Result (Option Zone) DeviceFault → Opened → Type 0
 IsAnswerFor own serial (Ok (Some zone)) o = (n : ℕ) × IsVersionWith own serial o zone n
 IsAnswerFor own serial (Ok None) o =
-    HasNone (newest_after o.loaded o.versions) (changes_after o o.base) serial
+    HasNoVersion (newest_after o.loaded o.versions) (changes_after o o.base) serial
 IsAnswerFor own serial (Err fault) o = fault ≡ OutOfMemory
 
 -- The device of the zone was looked into, with this answer.
@@ -68,9 +68,9 @@ abbrev pub IsPicked : {D : Type 0} → Ghosts D → List (DeviceCall D) → Zone
     → Result (Option Zone) DeviceFault → Type 0
 IsPicked g calls own serial result = IsSeenAs g calls own (IsAnswerFor own serial result)
 
-abbrev pub IsAnswered : {D : Type 0} → Ghosts D → List (DeviceCall D) → ZoneSettings → ℕ → Option Zone
+abbrev pub HasAnswer : {D : Type 0} → Ghosts D → List (DeviceCall D) → ZoneSettings → ℕ → Option Zone
     → Type 0
-IsAnswered g calls own serial zone = IsPicked g calls own serial (Ok zone)
+HasAnswer g calls own serial zone = IsPicked g calls own serial (Ok zone)
 
 -- Why there is none: the device shows no version; or memory was refused, or the device does not keep what was
 -- written.
@@ -99,37 +99,24 @@ abbrev pub IsNotPicked : {D : Type 0} → Ghosts D → List (DeviceCall D) → Z
 IsNotPicked g calls own serial explain text =
     ((fault : DeviceFault) × IsNotShown g calls own fault × (status_of fault ≡ 1)
     × (text ≡ device_text (string_bytes own.device) fault explain))
-    ⊎ (IsAnswered g calls own serial None × (text ≡ unfound_text serial explain))
+    ⊎ (HasAnswer g calls own serial None × (text ≡ unfound_text serial explain))
 
 -- How the showing of a device ends as it was at a serial: that version is printed, or why there is none is
 -- reported. With status 3 the device can't be had, a writer failed or memory was refused. The calls are the
 -- same however it ends.
-pub record PickingEnds {D : Type 0} (g : Ghosts D) (calls : List (DeviceCall D)) (own : ZoneSettings)
-    (serial : ℕ) (explain : Bool) (out out_after err err_after : Option (List ℕ)) (status : ℕ)
+pub record PickingEnds {D : Type 0} (g : Ghosts D) (serial : ℕ) (own : ZoneSettings)
+    (e : Ended (DeviceCall D))
     : Type 0 where
-  pub done : status ≡ 0
-      → (zone : Zone) × IsAnswered g calls own serial (Some zone)
-      × Appends out out_after (printed_zone zone.records) × Keeps err err_after
-  pub refused : status ≡ 1
-      → (text : List ℕ) × IsNotPicked g calls own serial explain text
-      × Appends err err_after (line text) × Keeps out out_after
-  pub others : status ≤ 1 ⊎ (status ≡ 3)
-  pub called : IsPickTried g calls serial own
+  pub done : e.status ≡ 0
+      → (zone : Zone) × HasAnswer g e.calls own serial (Some zone)
+      × Appends e.out e.out_after (printed_zone zone.records) × Keeps e.err e.err_after
+  pub refused : e.status ≡ 1
+      → (text : List ℕ) × IsNotPicked g e.calls own serial e.explain text
+      × Appends e.err e.err_after (line text) × Keeps e.out e.out_after
+  pub others : e.status ≤ 1 ⊎ (e.status ≡ 3)
+  pub called : IsPickTried g e.calls serial own
 
--- How a run of `dump --serial` ends. With status 3 the device can't be had, a writer failed or memory was
--- refused. However it ends, nothing was done but to look into the device of the zone that is named, if one
--- was named.
-pub record DumpAtEnds {D : Type 0} (g : Ghosts D) (calls : List (DeviceCall D)) (config : File)
-    (origin : List ℕ) (serial : ℕ) (explain : Bool) (out out_after err err_after : Option (List ℕ))
-    (status : ℕ)
-    : Type 0 where
-  pub done : status ≡ 0
-      → (own : ZoneSettings) × (zone : Zone) × IsNamed config origin own
-      × IsAnswered g calls own serial (Some zone)
-      × Appends out out_after (printed_zone zone.records) × Keeps err err_after
-  pub refused : status ≡ 1
-      → (text : List ℕ) × Appends err err_after (line text) × Keeps out out_after
-      × (IsNoZoneName config origin text
-      ⊎ ((own : ZoneSettings) × IsNamed config origin own × IsNotPicked g calls own serial explain text))
-  pub others : status ≤ 1 ⊎ (status ≡ 3)
-  pub called : AreCallsOf config origin (IsPickTried g calls serial) calls
+-- How a run of `dump --serial` ends. However it ends, nothing was done but to look into the device of the
+-- zone that is named, if one was named.
+abbrev pub DumpAtEnds : {D : Type 0} → Ghosts D → File → List ℕ → ℕ → Ended (DeviceCall D) → Type 0
+DumpAtEnds g config origin serial e = EndsForNamed config origin (PickingEnds g serial) e

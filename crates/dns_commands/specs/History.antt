@@ -1,6 +1,6 @@
 -- The journalled versions of a zone, and how a run ends that prints them.
 use Rattle.std.specs.Prelude.{◌≡◌, ◌⊎◌, ◌↔◌, ◌≤◌, ◌+◌, ℕ, Bool, true, List, [], ◌∷◌, ◌++◌, length, take, drop}
-use Rattle.std.specs.Prelude.{Option, codes, decimal, if◌then◌else◌}
+use Rattle.std.specs.Prelude.{codes, decimal, if◌then◌else◌}
 use Rattle.std.specs.String.{string_bytes}
 use Rattle.std.specs.Io.KnownBytes.{Appends, Keeps}
 use Rattle.dns_records.specs.Record.{Record, serial_of}
@@ -18,12 +18,12 @@ use Rattle.dns_primary.specs.Transfer.{changes_along}
 use Rattle.dns_configuration.specs.declared.configuration.ZoneSettings.{ZoneSettings}
 use Rattle.dns_configuration.specs.declared.files.File.{File}
 use Rattle.dns_configuration.specs.Faults.{line}
-use Rattle.dns_configuration.specs.Named.{IsNamed, IsNoZoneName}
 use Rattle.dns_devices.specs.declared.device_faults.DeviceFault.{DeviceFault}
 use Rattle.dns_devices.specs.DeviceFaults.{device_text, status_of}
 use Rattle.dns_devices.specs.DeviceCalls.{DeviceCall}
-use Rattle.dns_devices.specs.Stores.{AreCallsOf, IsNotShown, IsOpenedAndClosed, LeavesKept, own_shape}
+use Rattle.dns_devices.specs.Stores.{IsNotShown, IsOpenedAndClosed, LeavesKept, own_shape}
 use Rattle.dns_commands.specs.Compare.{change_lines}
+use Rattle.dns_commands.specs.Frame.{Ended, EndsForNamed}
 use Rattle.dns_commands.specs.LoadRun.{difference_line}
 
 -- The versions of a zone from one on: its number and its serial, and the changes that lead from each to the
@@ -99,42 +99,30 @@ pub record IsSeenAs {D : Type 0} (g : Ghosts D) (calls : List (DeviceCall D)) (o
       → LeavesOnly g.moment g.left_since device after (OpensAsPossible g (own_shape own) device)
 
 -- It showed this history.
-abbrev pub IsListed : {D : Type 0} → Ghosts D → List (DeviceCall D) → ZoneSettings → History → Type 0
-IsListed g calls own h = IsSeenAs g calls own (IsHistoryOf h)
+abbrev pub ShowsHistory : {D : Type 0} → Ghosts D → List (DeviceCall D) → ZoneSettings → History → Type 0
+ShowsHistory g calls own h = IsSeenAs g calls own (IsHistoryOf h)
 
 -- The device of the zone was looked into, and showed a history or no version.
 abbrev pub IsListTried : {D : Type 0} → Ghosts D → List (DeviceCall D) → ZoneSettings → Type 0
 IsListTried g calls own =
-    ((h : History) × IsListed g calls own h) ⊎ ((fault : DeviceFault) × IsNotShown g calls own fault)
+    ((h : History) × ShowsHistory g calls own h) ⊎ ((fault : DeviceFault) × IsNotShown g calls own fault)
 
 -- How the listing of a device ends: its versions are printed, or its error is reported. With status 3 the
 -- device can't be had, a writer failed or memory was refused. The calls are the same however it ends.
-pub record ListingEnds {D : Type 0} (g : Ghosts D) (calls : List (DeviceCall D)) (own : ZoneSettings)
-    (with_records explain : Bool) (out out_after err err_after : Option (List ℕ)) (status : ℕ)
+pub record ListingEnds {D : Type 0} (g : Ghosts D) (with_records : Bool) (own : ZoneSettings)
+    (e : Ended (DeviceCall D))
     : Type 0 where
-  pub done : status ≡ 0
-      → (h : History) × IsListed g calls own h
-      × Appends out out_after (history_text with_records h) × Keeps err err_after
-  pub refused : status ≡ 1
-      → (fault : DeviceFault) × IsNotShown g calls own fault × (status_of fault ≡ 1)
-      × Appends err err_after (line (device_text (string_bytes own.device) fault explain))
-      × Keeps out out_after
-  pub others : status ≤ 1 ⊎ (status ≡ 3)
-  pub called : IsListTried g calls own
+  pub done : e.status ≡ 0
+      → (h : History) × ShowsHistory g e.calls own h
+      × Appends e.out e.out_after (history_text with_records h) × Keeps e.err e.err_after
+  pub refused : e.status ≡ 1
+      → (fault : DeviceFault) × IsNotShown g e.calls own fault × (status_of fault ≡ 1)
+      × Appends e.err e.err_after (line (device_text (string_bytes own.device) fault e.explain))
+      × Keeps e.out e.out_after
+  pub others : e.status ≤ 1 ⊎ (e.status ≡ 3)
+  pub called : IsListTried g e.calls own
 
--- How a run of `history` ends. With status 3 the device can't be had, a writer failed or memory was refused.
--- However it ends, nothing was done but to look into the device of the zone that is named, if one was named.
-pub record HistoryEnds {D : Type 0} (g : Ghosts D) (calls : List (DeviceCall D)) (config : File)
-    (origin : List ℕ) (with_records explain : Bool) (out out_after err err_after : Option (List ℕ))
-    (status : ℕ)
-    : Type 0 where
-  pub done : status ≡ 0
-      → (own : ZoneSettings) × (h : History) × IsNamed config origin own × IsListed g calls own h
-      × Appends out out_after (history_text with_records h) × Keeps err err_after
-  pub refused : status ≡ 1
-      → (text : List ℕ) × Appends err err_after (line text) × Keeps out out_after
-      × (IsNoZoneName config origin text
-      ⊎ ((own : ZoneSettings) × (fault : DeviceFault) × IsNamed config origin own
-      × IsNotShown g calls own fault × (text ≡ device_text (string_bytes own.device) fault explain)))
-  pub others : status ≤ 1 ⊎ (status ≡ 3)
-  pub called : AreCallsOf config origin (IsListTried g calls) calls
+-- How a run of `history` ends. However it ends, nothing was done but to look into the device of the zone that
+-- is named, if one was named.
+abbrev pub HistoryEnds : {D : Type 0} → Ghosts D → File → List ℕ → Bool → Ended (DeviceCall D) → Type 0
+HistoryEnds g config origin with_records e = EndsForNamed config origin (ListingEnds g with_records) e

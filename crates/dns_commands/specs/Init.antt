@@ -1,7 +1,6 @@
 -- How the devices of zones are made, and how a run that makes them ends.
-use Rattle.std.specs.Prelude.{◌≡◌, ◌⊎◌, ◌↔◌, ◌≤◌, ◌<◌, ◌+◌, ◌*◌, ℕ, zero, suc, Bool, true, false, List, [], ◌∷◌}
-use Rattle.std.specs.Prelude.{◌++◌, take}
-use Rattle.std.specs.Prelude.{length, map, flat_map, Option, Some, None, Ok, Err}
+use Rattle.std.specs.Prelude.{◌≡◌, ◌⊎◌, ◌↔◌, ◌≤◌, ◌<◌, ◌+◌, ◌*◌, ℕ, zero, suc, Bool, true, false, List, []}
+use Rattle.std.specs.Prelude.{◌∷◌, ◌++◌, take, length, map, flat_map, Option, Some, None, Ok, Err}
 use Rattle.std.specs.Prelude.{codes, decimal}
 use Rattle.std.specs.List.{AllZip}
 use Rattle.std.specs.Option.{option_copied}
@@ -35,6 +34,7 @@ use Rattle.dns_devices.specs.declared.device_faults.DeviceFault.TheVariants.{Out
 use Rattle.dns_devices.specs.DeviceFaults.{device_text, status_of}
 use Rattle.dns_devices.specs.DeviceCalls.{Asked, Closed, DeviceCall, Made, Removed}
 use Rattle.dns_configuration.specs.Named.{IsNoZone, zone_configured}
+use Rattle.dns_commands.specs.Frame.{Ended}
 
 -- A root, and two banks.
 abbrev pub sectors_of : ZoneSettings → ℕ
@@ -154,18 +154,18 @@ NoneStays {D} g calls settings zones =
 
 -- How the making of all devices ends. With status 3 a device can't be had, a writer failed or memory was
 -- refused.
-pub record MakingEnds {D : Type 0} (g : Ghosts D) (calls : List (DeviceCall D)) (settings : List ZoneSettings)
-    (zones : List Zone) (explain : Bool) (out out_after err err_after : Option (List ℕ)) (status : ℕ)
+pub record MakingEnds {D : Type 0} (g : Ghosts D) (settings : List ZoneSettings) (zones : List Zone)
+    (e : Ended (DeviceCall D))
     : Type 0 where
-  pub done : status ≡ 0
-      → AreMade g calls settings zones × Appends out out_after (flat_map formatted zones)
-      × Keeps err err_after
-  pub refused : status ≡ 1
-      → (path : List ℕ) × (fault : DeviceFault) × IsMakingUndone g calls settings zones path fault
-      × (status_of fault ≡ 1) × Keeps out out_after
-      × Appends err err_after (line (device_text path fault explain))
-  pub others : status ≤ 1 ⊎ (status ≡ 3)
-  pub called : (status ≡ 0) ⊎ NoneStays g calls settings zones
+  pub done : e.status ≡ 0
+      → AreMade g e.calls settings zones × Appends e.out e.out_after (flat_map formatted zones)
+      × Keeps e.err e.err_after
+  pub refused : e.status ≡ 1
+      → (path : List ℕ) × (fault : DeviceFault) × IsMakingUndone g e.calls settings zones path fault
+      × (status_of fault ≡ 1) × Keeps e.out e.out_after
+      × Appends e.err e.err_after (line (device_text path fault e.explain))
+  pub others : e.status ≤ 1 ⊎ (e.status ≡ 3)
+  pub called : (e.status ≡ 0) ⊎ NoneStays g e.calls settings zones
 
 -- The zones whose devices are made: all that are configured, or the one that the word names.
 abbrev pub AreChosen : Option (List ℕ) → List ZoneSettings → List ZoneSettings → Type 0
@@ -225,16 +225,16 @@ IsInitTried {D} g calls config origin files =
 -- How a run of `init` ends, for all zones or for the one that the word names. With status 3 a device can't be
 -- had, a writer failed or memory was refused. Nothing that was there before is opened, written or removed,
 -- however it ends.
-pub record InitEnds {D : Type 0} (g : Ghosts D) (calls : List (DeviceCall D)) (config : File)
-    (origin : Option (List ℕ)) (files : List File) (explain : Bool)
-    (out out_after err err_after : Option (List ℕ)) (status : ℕ) : Type 0 where
-  pub done : status ≡ 0
+pub record InitEnds {D : Type 0} (g : Ghosts D) (config : File) (origin : Option (List ℕ))
+    (files : List File) (e : Ended (DeviceCall D))
+    : Type 0 where
+  pub done : e.status ≡ 0
       → (settings : List ZoneSettings) × (zones : List Zone) × IsGiven config origin files settings zones
-      × (making : List (DeviceCall D)) × (calls ≡ map absent settings ++ making)
+      × (making : List (DeviceCall D)) × (e.calls ≡ map absent settings ++ making)
       × AreMade g making settings zones
-      × Appends out out_after (flat_map formatted zones) × Keeps err err_after
-  pub refused : status ≡ 1
-      → (text : List ℕ) × IsInitRefused g calls config origin files text explain
-      × Keeps out out_after × Appends err err_after (line text)
-  pub others : status ≤ 1 ⊎ (status ≡ 3)
-  pub called : (status ≡ 0) ⊎ IsInitTried g calls config origin files
+      × Appends e.out e.out_after (flat_map formatted zones) × Keeps e.err e.err_after
+  pub refused : e.status ≡ 1
+      → (text : List ℕ) × IsInitRefused g e.calls config origin files text e.explain
+      × Keeps e.out e.out_after × Appends e.err e.err_after (line text)
+  pub others : e.status ≤ 1 ⊎ (e.status ≡ 3)
+  pub called : (e.status ≡ 0) ⊎ IsInitTried g e.calls config origin files

@@ -4,6 +4,7 @@ pub mod Compare
 pub mod Diff
 pub mod Dump
 pub mod DumpAt
+pub mod Frame
 pub mod History
 pub mod Init
 pub mod Inputs

@@ -154,8 +154,8 @@ pub record IsLoadedOn {D : Type 0} (g : Ghosts D) (own : ZoneSettings) (records 
   pub any_moment : LeavesOnly g.moment g.left_since device after (LoadsAsPossible g own records device o)
 
 -- The device that was opened at the path was one that a crash might have left as some content, the records
--- were loaded into what that opens as, with this result, whichever versions there were before its base, and it
--- was closed.
+-- were loaded into what that opens as, with this result, whichever versions there were before its base, and
+-- it was closed.
 pub record IsLoading {D : Type 0} (g : Ghosts D) (calls : List (DeviceCall D)) (own : ZoneSettings)
     (records : List Record) (result : Result Loaded DeviceFault) : Type 0 where
   pub device : D

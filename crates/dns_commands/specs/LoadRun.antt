@@ -1,5 +1,5 @@
 -- How a run ends that makes the records of a zone's master file the next version of its store.
-use Rattle.std.specs.Prelude.{◌≡◌, ◌⊎◌, ◌≤◌, ℕ, Bool, List, [], ◌++◌, Option, Err, codes, decimal}
+use Rattle.std.specs.Prelude.{◌≡◌, ◌⊎◌, ◌≤◌, ℕ, Bool, List, [], ◌++◌, Err, codes, decimal}
 use Rattle.std.specs.String.{string_bytes}
 use Rattle.std.specs.Io.KnownBytes.{Appends, Keeps}
 use Rattle.dns_names.specs.Text.{printed_name}
@@ -16,8 +16,7 @@ use Rattle.dns_commands.specs.declared.next_version.Loaded.{Loaded}
 use Rattle.dns_commands.specs.declared.next_version.Loaded.TheVariants.{Already, Next}
 use Rattle.dns_devices.specs.DeviceFaults.{device_text, status_of}
 use Rattle.dns_devices.specs.DeviceCalls.{DeviceCall}
-use Rattle.dns_devices.specs.Stores.{AreCallsOf}
-use Rattle.dns_configuration.specs.Named.{IsNamed, IsNoZoneName}
+use Rattle.dns_commands.specs.Frame.{Ended, EndsForNamed}
 use Rattle.dns_commands.specs.Load.{IsLoadTried, IsLoadedAs, IsNotLoaded}
 
 -- What is printed of the records of a file that were loaded: the number of their version and their serial,
@@ -50,8 +49,8 @@ pub record IsFileLoaded {D : Type 0} (g : Ghosts D) (calls : List (DeviceCall D)
 
 -- Why a zone's master file was not loaded, and the text that says so: it holds no zone; or it holds these
 -- records, and the device or the records were refused.
-abbrev pub IsFileRefused : {D : Type 0} → Ghosts D → List (DeviceCall D) → ZoneSettings → List File → Bool → List ℕ
-    → Type 0
+abbrev pub IsFileRefused : {D : Type 0} → Ghosts D → List (DeviceCall D) → ZoneSettings → List File → Bool
+    → List ℕ → Type 0
 IsFileRefused g calls own files explain text =
     ((fault : Fault) × (loaded_by files own ≡ Err fault) × (text ≡ fault_text (string_bytes own.file) fault))
     ⊎ ((zone : Zone) × (fault : DeviceFault) × IsLoadedFrom files own zone
@@ -65,30 +64,19 @@ IsFileLoadTried g calls files own =
 
 -- How the loading of a zone's master file ends. With status 3 the device can't be had, a writer failed or
 -- memory was refused.
-pub record LoadingEnds {D : Type 0} (g : Ghosts D) (calls : List (DeviceCall D)) (own : ZoneSettings)
-    (files : List File) (explain : Bool) (out out_after err err_after : Option (List ℕ)) (status : ℕ)
+pub record LoadingEnds {D : Type 0} (g : Ghosts D) (files : List File) (own : ZoneSettings)
+    (e : Ended (DeviceCall D))
     : Type 0 where
-  pub done : status ≡ 0
-      → (answer : Loaded) × IsFileLoaded g calls own files answer
-      × Appends out out_after (loaded_line own answer) × Keeps err err_after
-  pub refused : status ≡ 1
-      → (text : List ℕ) × IsFileRefused g calls own files explain text × Appends err err_after (line text)
-      × Keeps out out_after
-  pub others : status ≤ 1 ⊎ (status ≡ 3)
-  pub called : IsFileLoadTried g calls files own
+  pub done : e.status ≡ 0
+      → (answer : Loaded) × IsFileLoaded g e.calls own files answer
+      × Appends e.out e.out_after (loaded_line own answer) × Keeps e.err e.err_after
+  pub refused : e.status ≡ 1
+      → (text : List ℕ) × IsFileRefused g e.calls own files e.explain text
+      × Appends e.err e.err_after (line text) × Keeps e.out e.out_after
+  pub others : e.status ≤ 1 ⊎ (e.status ≡ 3)
+  pub called : IsFileLoadTried g e.calls files own
 
--- How a run of `load` ends. With status 3 the device can't be had, a writer failed or memory was refused.
--- However it ends, nothing was done but to load the file of the zone that is named into its device.
-pub record LoadEnds {D : Type 0} (g : Ghosts D) (calls : List (DeviceCall D)) (config : File) (files : List File)
-    (origin : List ℕ) (explain : Bool) (out out_after err err_after : Option (List ℕ)) (status : ℕ)
-    : Type 0 where
-  pub done : status ≡ 0
-      → (own : ZoneSettings) × IsNamed config origin own
-      × (answer : Loaded) × IsFileLoaded g calls own files answer
-      × Appends out out_after (loaded_line own answer) × Keeps err err_after
-  pub refused : status ≡ 1
-      → (text : List ℕ) × Appends err err_after (line text) × Keeps out out_after
-      × (IsNoZoneName config origin text
-      ⊎ ((own : ZoneSettings) × IsNamed config origin own × IsFileRefused g calls own files explain text))
-  pub others : status ≤ 1 ⊎ (status ≡ 3)
-  pub called : AreCallsOf config origin (IsFileLoadTried g calls files) calls
+-- How a run of `load` ends. However it ends, nothing was done but to load the file of the zone that is named
+-- into its device.
+abbrev pub LoadEnds : {D : Type 0} → Ghosts D → File → List File → List ℕ → Ended (DeviceCall D) → Type 0
+LoadEnds g config files origin e = EndsForNamed config origin (LoadingEnds g files) e

@@ -1,5 +1,5 @@
 -- How the devices of zones are migrated to sector format 2, and how a run that migrates them ends.
-use Rattle.std.specs.Prelude.{◌≡◌, ◌⊎◌, ◌↔◌, ◌≤◌, ◌<◌, ℕ, Bool, List, [], ◌∷◌, ◌++◌, take, Option}
+use Rattle.std.specs.Prelude.{◌≡◌, ◌⊎◌, ◌↔◌, ◌≤◌, ◌<◌, ℕ, Bool, List, [], ◌∷◌, ◌++◌, take}
 use Rattle.std.specs.Prelude.{Ok, Err, codes, decimal}
 use Rattle.std.specs.Option.{option_copied}
 use Rattle.std.specs.String.{string_bytes}
@@ -29,6 +29,7 @@ use Rattle.dns_configuration.specs.Files.{HoldsConfiguration}
 use Rattle.dns_devices.specs.declared.device_faults.DeviceFault.{DeviceFault}
 use Rattle.dns_devices.specs.DeviceFaults.{device_text, fault_of_migrate, status_of}
 use Rattle.dns_devices.specs.DeviceCalls.{DeviceCall}
+use Rattle.dns_commands.specs.Frame.{Ended}
 use Rattle.dns_devices.specs.Stores.{IsDeviceNotGiven, IsOpenedAndClosed, own_shape}
 
 -- A crash at any moment of it leaves what `migrate` and then `open` open as a crash might have left the
@@ -38,10 +39,10 @@ StaysMigratable g own device after =
     g.is_honest device → IsInRange own.snapshot_sectors own.journal_sectors
     → LeavesOnly g.moment g.left_since device after (MigratesAsPossible g (own_shape own) device)
 
--- The device that was opened at the path was migrated and closed, with this answer: from then on each crash leaves what
--- `open` alone opens, as a crash might have left the device before, and the answer is of that. It was opened
--- once more; its first sector was a root of format 1 of that zone and these sizes, and its newest version has
--- room. One that is answered as of format 2 already was only read.
+-- The device that was opened at the path was migrated and closed, with this answer: from then on each crash
+-- leaves what `open` alone opens, as a crash might have left the device before, and the answer is of that. It
+-- was opened once more; its first sector was a root of format 1 of that zone and these sizes, and its newest
+-- version has room. One that is answered as of format 2 already was only read.
 pub record IsMigratedAs {D : Type 0} (g : Ghosts D) (calls : List (DeviceCall D)) (own : ZoneSettings)
     (answer : Migration) : Type 0 where
   pub device : D
@@ -133,23 +134,23 @@ IsMigrationTried g calls settings =
 
 -- How the migrating of all devices ends. With status 3 a device can't be had, a writer failed or memory was
 -- refused.
-pub record MigratingEnds {D : Type 0} (g : Ghosts D) (calls : List (DeviceCall D)) (settings : List ZoneSettings)
-    (explain : Bool) (out out_after err err_after : Option (List ℕ)) (status : ℕ)
+pub record MigratingEnds {D : Type 0} (g : Ghosts D) (settings : List ZoneSettings) (e : Ended (DeviceCall D))
     : Type 0 where
-  pub done : status ≡ 0
-      → (printed : List ℕ) × AreMigrated g calls settings printed × Appends out out_after printed
-      × Keeps err err_after
-  pub refused : status ≡ 1
+  pub done : e.status ≡ 0
+      → (printed : List ℕ) × AreMigrated g e.calls settings printed × Appends e.out e.out_after printed
+      × Keeps e.err e.err_after
+  pub refused : e.status ≡ 1
       → (path : List ℕ) × (fault : DeviceFault) × (printed : List ℕ)
-      × MigratingStopsAt g calls settings path fault printed
-      × (status_of fault ≡ 1) × Appends out out_after printed
-      × Appends err err_after (line (device_text path fault explain))
-  pub others : status ≤ 1 ⊎ (status ≡ 3)
-  pub called : IsMigrationTried g calls settings
+      × MigratingStopsAt g e.calls settings path fault printed
+      × (status_of fault ≡ 1) × Appends e.out e.out_after printed
+      × Appends e.err e.err_after (line (device_text path fault e.explain))
+  pub others : e.status ≤ 1 ⊎ (e.status ≡ 3)
+  pub called : IsMigrationTried g e.calls settings
 
 -- How a run of `migrate` is refused: the fault of the configuration is reported, and nothing was printed or
 -- migrated; or else devices were migrated, up to one that was not.
-abbrev pub IsMigrateRefused : {D : Type 0} → Ghosts D → List (DeviceCall D) → File → List ℕ → List ℕ → Bool → Type 0
+abbrev pub IsMigrateRefused : {D : Type 0} → Ghosts D → List (DeviceCall D) → File → List ℕ → List ℕ → Bool
+    → Type 0
 IsMigrateRefused g calls config printed text explain =
     ((fault : Fault) × HoldsConfiguration (option_copied config.octets) (Err fault) × (printed ≡ [])
     × (text ≡ fault_text config.path.now fault))
@@ -158,19 +159,17 @@ IsMigrateRefused g calls config printed text explain =
     × (status_of fault ≡ 1) × MigratingStopsAt g calls c.zones.items path fault printed)
 
 -- How a run of `migrate` ends. With status 3 a device can't be had, a writer failed or memory was refused.
--- However it ends, nothing was done but to migrate the devices of zones in their order, each closed before the
--- next one is opened.
-pub record MigrateEnds {D : Type 0} (g : Ghosts D) (calls : List (DeviceCall D)) (config : File) (explain : Bool)
-    (out out_after err err_after : Option (List ℕ)) (status : ℕ)
-    : Type 0 where
-  pub done : status ≡ 0
+-- However it ends, nothing was done but to migrate the devices of zones in their order, each closed before
+-- the next one is opened.
+pub record MigrateEnds {D : Type 0} (g : Ghosts D) (config : File) (e : Ended (DeviceCall D)) : Type 0 where
+  pub done : e.status ≡ 0
       → (c : Configuration) × HoldsConfiguration (option_copied config.octets) (Ok c)
-      × ((printed : List ℕ) × AreMigrated g calls c.zones.items printed × Appends out out_after printed
-      × Keeps err err_after)
-  pub refused : status ≡ 1
-      → (printed : List ℕ) × (text : List ℕ) × IsMigrateRefused g calls config printed text explain
-      × Appends out out_after printed × Appends err err_after (line text)
-  pub others : status ≤ 1 ⊎ (status ≡ 3)
-  pub called : (calls ≡ [])
+      × ((printed : List ℕ) × AreMigrated g e.calls c.zones.items printed × Appends e.out e.out_after printed
+      × Keeps e.err e.err_after)
+  pub refused : e.status ≡ 1
+      → (printed : List ℕ) × (text : List ℕ) × IsMigrateRefused g e.calls config printed text e.explain
+      × Appends e.out e.out_after printed × Appends e.err e.err_after (line text)
+  pub others : e.status ≤ 1 ⊎ (e.status ≡ 3)
+  pub called : (e.calls ≡ [])
       ⊎ ((c : Configuration) × HoldsConfiguration (option_copied config.octets) (Ok c)
-      × IsMigrationTried g calls c.zones.items)
+      × IsMigrationTried g e.calls c.zones.items)

@@ -1,10 +1,9 @@
 -- How a run of a script over the zones of a configuration ends.
-use Rattle.std.specs.Prelude.{◌≡◌, ◌⊎◌, ◌↔◌, IsTrue, ℕ, ◌≤◌, false, List, [], map, slice_get, Option, Some}
-use Rattle.std.specs.Prelude.{None, Ok, Err}
+use Rattle.std.specs.Prelude.{◌≡◌, ◌⊎◌, ◌↔◌, IsTrue, ℕ, ◌≤◌, false, List, [], map, Option, Some, None, IsSome}
+use Rattle.std.specs.Prelude.{Ok, Err}
 use Rattle.std.specs.List.{AllZip}
 use Rattle.std.specs.declared.net.ip_addr.IpAddr.{IpAddr}
 use Rattle.std.specs.Option.{option_copied}
-use Rattle.std.specs.String.{string_bytes}
 use Rattle.std.specs.Io.KnownBytes.{Appends, Keeps}
 use Rattle.dns_zone.specs.Zone.{Zone}
 use Rattle.dns_names.specs.Name.{Labels}
@@ -13,7 +12,6 @@ use Rattle.dns_versions.specs.Each.{Each3}
 use Rattle.dns_primary.specs.Machine.{Machine, ZoneState}
 use Rattle.dns_primary.specs.Fresh.{IsFresh}
 use Rattle.dns_primary.specs.Runs.{Run}
-use Rattle.dns_store.specs.declared.formatting.FormatError.{FormatError}
 use Rattle.dns_configuration.specs.declared.configuration.ZoneSettings.{ZoneSettings}
 use Rattle.dns_configuration.specs.declared.configuration.Configuration.{Configuration}
 use Rattle.dns_configuration.specs.declared.files.File.{File}
@@ -28,10 +26,12 @@ use Rattle.dns_sectors.specs.Device.{Content}
 use Rattle.dns_sectors.specs.declared.device.Sectors.{Ghosts}
 use Rattle.dns_sectors.specs.declared.memory.Keep as told
 use Rattle.dns_primary.specs.declared.primary.ZoneSpec as primary
-use Rattle.dns_devices.specs.DeviceFaults.{device_text, fault_of_format}
+use Rattle.dns_devices.specs.declared.device_faults.DeviceFault.TheVariants.{ZoneTooLarge}
+use Rattle.dns_devices.specs.DeviceFaults.{device_text}
 use Rattle.dns_replay.specs.Lines.{lines}
 use Rattle.dns_replay.specs.Crashes.{IsCrash}
 use Rattle.dns_replay.specs.Scripts.{Crash, Led, Runs, Takes}
+use Rattle.dns_commands.specs.CheckConfiguration.{HasSectors, IsFirstTooLarge}
 
 -- A zone as it was loaded, with what is configured of it: no update was accepted, and its store was opened
 -- once.
@@ -55,10 +55,6 @@ pub record Begins (settings : List ZoneSettings) (zones : List Zone) (m : Machin
   pub waiting : m.waiting ≡ []
   pub connections : m.connections ≡ []
 
--- The paths of the devices, in the order of the zones.
-abbrev pub device_paths : List ZoneSettings → List (List ℕ)
-device_paths settings = map (λ (z : ZoneSettings). string_bytes z.device) settings
-
 -- The lines of a script lead there, from this machine on, by a run of the machine; and the run ends so.
 abbrev pub RunsInto : List Labels → Crash → Machine → List (List ℕ) → Ending → Option (List ℕ)
     → Option (List ℕ) → Type 0
@@ -72,43 +68,42 @@ Ran origins crash m ending None out out_after = ⊥
 Ran origins crash m ending (Some octets) out out_after =
     RunsInto origins crash m (lines octets) ending out out_after
 
-abbrev pub IsScriptFault : List Labels → Crash → Machine → Option (List ℕ) → Fault → Option (List ℕ)
-    → Option (List ℕ) → Type 0
-IsScriptFault origins crash m None Unreadable out out_after = Keeps out out_after
-IsScriptFault origins crash m (Some octets) (Syntax number) out out_after =
-    RunsInto origins crash m (lines octets) (ending.Syntax number) out out_after
-IsScriptFault origins crash m octets fault out out_after = ⊥
+-- The script can't be read, which is reported.
+abbrev pub IsUnreadTold : File → Option (List ℕ) → Option (List ℕ) → Type 0
+IsUnreadTold script err err_after =
+    (option_copied script.octets ≡ None)
+    × Appends err err_after (line (fault_text script.path.now Unreadable))
 
--- A fault of the script is reported: that it can't be read, or the first line that is no command, after what
--- the lines before it print.
-pub record IsScriptTold (origins : List Labels) (crash : Crash) (m : Machine) (script : File)
-    (out out_after err err_after : Option (List ℕ))
-    : Type 0 where
-  pub fault : Fault
-  pub is : IsScriptFault origins crash m (option_copied script.octets) fault out out_after
-  pub told : Appends err err_after (line (fault_text script.path.now fault))
+-- The first zone that takes more sectors than its snapshots have is reported, by the path of its device.
+abbrev pub IsTooLargeTold : List ZoneSettings → List Zone → Option (List ℕ) → Option (List ℕ) → Type 0
+IsTooLargeTold settings zones err err_after =
+    (path : List ℕ) × IsFirstTooLarge settings zones path
+    × Appends err err_after (line (device_text path ZoneTooLarge false))
 
--- A device on which no store can be made is reported, and why.
-pub record IsUnmadeTold (devices : List (List ℕ)) (err err_after : Option (List ℕ)) : Type 0 where
-  pub place : ℕ
-  pub path : List ℕ
-  pub is : slice_get devices place ≡ Some path
-  pub error : FormatError
-  pub told : Appends err err_after (line (device_text path (fault_of_format error) false))
+-- The first line that is no command is reported, after what the lines before it print; or a store is refused
+-- after a crash, which is printed.
+abbrev pub IsCutShort : List Labels → Crash → Machine → File → Option (List ℕ) → Option (List ℕ)
+    → Option (List ℕ) → Option (List ℕ) → Type 0
+IsCutShort origins crash m script out out_after err err_after =
+    ((number : ℕ) × Ran origins crash m (ending.Syntax number) (option_copied script.octets) out out_after
+    × Appends err err_after (line (fault_text script.path.now (Syntax number))))
+    ⊎ (Ran origins crash m ending.Refused (option_copied script.octets) out out_after × Keeps err err_after)
 
--- What a run of a script over zones wrote, by its exit status. With 0 what all its lines print. With 1 what
--- those before the first that is no command print, and that line is reported, or that the script can't be
--- read; or what the lines print up to the one after which a store is refused; or nothing, and the device on
--- which no store can be made is reported. With 3 a writer or a device failed, or memory was refused.
-pub record ScriptEnds (origins : List Labels) (crash : Crash) (devices : List (List ℕ))
-    (m : Machine) (script : File) (out out_after err err_after : Option (List ℕ)) (status : ℕ)
+-- How a run of a script over zones ends, by its exit status. With 0 each zone has room on its device, and
+-- what all the lines print is printed. With 1 the script can't be read; or it can, and a zone is too large;
+-- or none is, and a line ended the run. With 3 a writer or a device failed, or memory was refused.
+pub record ScriptEnds (origins : List Labels) (crash : Crash) (settings : List ZoneSettings)
+    (zones : List Zone) (m : Machine) (script : File) (out out_after err err_after : Option (List ℕ))
+    (status : ℕ)
     : Type 0 where
   pub done : status ≡ 0
-      → Ran origins crash m ending.Done (option_copied script.octets) out out_after × Keeps err err_after
+      → AllZip HasSectors settings zones
+      × Ran origins crash m ending.Done (option_copied script.octets) out out_after × Keeps err err_after
   pub refused : status ≡ 1
-      → IsScriptTold origins crash m script out out_after err err_after
-      ⊎ (Ran origins crash m ending.Refused (option_copied script.octets) out out_after × Keeps err err_after)
-      ⊎ (IsUnmadeTold devices err err_after × Keeps out out_after)
+      → (IsUnreadTold script err err_after × Keeps out out_after)
+      ⊎ (IsSome (option_copied script.octets) × IsTooLargeTold settings zones err err_after
+      × Keeps out out_after)
+      ⊎ (AllZip HasSectors settings zones × IsCutShort origins crash m script out out_after err err_after)
   pub others : status ≤ 1 ⊎ (status ≡ 3)
 
 -- From each machine of these zones to which nothing has happened the run of the script ends so.
@@ -120,7 +115,7 @@ EndsFromFresh g kept zones known own script out out_after err err_after status =
     → IsFresh zones known m
     → ScriptEnds (map (λ (z : Zone). z.apex) zones)
     (IsCrash g kept (map (λ (z : Zone). z.apex) zones) known)
-    (device_paths own) m script out out_after err err_after status
+    own zones m script out out_after err err_after status
 
 -- The zones of the configuration that a file holds, what a primary is told of each, and how a run of a script
 -- ends that begins with them: there is a machine of these zones to which nothing has happened, and from each
@@ -139,7 +134,7 @@ pub record RunsOver {D : Type 0} (g : Ghosts D) (kept : D → told.Keep → Cont
       → Begins configuration.zones.items zones m
       → ScriptEnds (origins_of configuration.zones.items)
       (IsCrash g kept (origins_of configuration.zones.items) known)
-      (device_paths configuration.zones.items) m script out out_after err err_after status
+      configuration.zones.items zones m script out out_after err err_after status
 
 -- The fault that is reported, after a path, before the script runs: of the configuration, or else of the
 -- first master file that holds no zone, in the order of the zones.

@@ -6,6 +6,7 @@ use mio::net::{TcpListener, UdpSocket};
 use std::fs::{self, OpenOptions};
 use std::io::{self, ErrorKind, Write};
 use std::net::SocketAddr;
+use std::os::unix::fs::OpenOptionsExt;
 use std::slice;
 
 /// Tells why the system does not give a file.
@@ -90,6 +91,9 @@ pub fn explain_devices<E: Write>(
     explain_first(rt, zones_meant(heap, &configuration.zones, origin), err)
 }
 
+/// A file that only its owner reads and writes, as a device is.
+const OWNER_ALONE: u32 = 0o600;
+
 /// Tells why no file can be made at the path of a zone's device. Answers whether none can; one that can is
 /// taken away again.
 fn explain_unmade_device<E: Write>(
@@ -98,11 +102,10 @@ fn explain_unmade_device<E: Write>(
     err: &mut E,
 ) -> io::Result<bool> {
     let path = own.device.as_str();
-    match OpenOptions::new()
-        .write(true)
-        .create_new(true)
-        .open(rt, path)
-    {
+    let mut how = OpenOptions::new();
+    how.write(true).create_new(true);
+    how.mode(OWNER_ALONE);
+    match how.open(rt, path) {
         Ok(file) => {
             drop(file);
             fs::remove_file(rt, path)?;

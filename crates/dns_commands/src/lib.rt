@@ -7,6 +7,7 @@ mod commands;
 mod explain;
 mod explain_settings;
 mod explain_system;
+mod frame;
 mod inputs;
 mod next_version;
 mod warnings;
@@ -28,6 +29,7 @@ pub use explain_settings::{explain_origin, explain_replay};
 pub use explain_system::{
     explain_devices, explain_other, explain_unmade, explain_unreadable, explain_unserved,
 };
+pub use frame::Run;
 pub use inputs::{file, is_file, master_files, octets, octets_in, zone_file};
 pub use next_version::{Loaded, load_zone};
 pub use warnings::warn_of_configuration;

@@ -3,7 +3,7 @@ use crate::commands::Before::{First, Left, Nothing, Old, Second};
 use crate::commands::Command::{Diff, Dump, DumpAt, History, Init, Migrate};
 use crate::old_format::updated;
 use crate::stores::read;
-use dns_commands::{diff, dump, dump_at, history, init, migrate};
+use dns_commands::{Run, diff, dump, dump_at, history, init, migrate};
 use dns_configuration::File;
 use dns_devices::Disk;
 use dns_fixtures::plan;
@@ -156,115 +156,56 @@ fn file<'a>(path: &'a str, text: &'a str) -> File<'a> {
     }
 }
 
-/// That of a `dump` of the first zone at a serial.
-fn run_dump_at(
-    rt: &HostRuntime,
-    heap: Heap,
-    serial: u32,
-    explain: bool,
-    out: &mut Vec<u8>,
-    err: &mut Vec<u8>,
-) -> u8 {
-    dump_at::<Device, _, RecordList, _, _>(
-        rt.alloc(),
-        heap,
-        &mut Disk(rt),
-        &file("dnsprim.toml", CONFIG),
-        "example.",
-        serial,
-        explain,
-        out,
-        err,
-    )
+/// Whether advice is wanted.
+fn explains(command: Command) -> bool {
+    match command {
+        Init(_, explain) | Dump(_, explain) | DumpAt(_, explain) | Migrate(explain) => explain,
+        Diff(_, _, _) | History(_, _) => false,
+    }
 }
 
-/// That of a `diff` of the first zone.
-fn run_diff(
-    rt: &HostRuntime,
-    heap: Heap,
-    (from, to): (u32, Option<u32>),
-    as_update: bool,
-    out: &mut Vec<u8>,
-    err: &mut Vec<u8>,
+/// The exit status of a command.
+fn status_of(
+    run: &mut Run<Disk<'_, HostRuntime>, &mut Vec<u8>, &mut Vec<u8>>,
+    command: Command,
 ) -> u8 {
-    diff::<Device, _, RecordList, _, _>(
-        rt.alloc(),
-        heap,
-        &mut Disk(rt),
-        &file("dnsprim.toml", CONFIG),
-        "example.",
-        from,
-        to,
-        as_update,
-        false,
-        out,
-        err,
-    )
-}
-
-/// That of a `history`.
-fn run_history(
-    rt: &HostRuntime,
-    heap: Heap,
-    origin: &str,
-    with_records: bool,
-    out: &mut Vec<u8>,
-    err: &mut Vec<u8>,
-) -> u8 {
-    history::<Device, _, RecordList, _, _>(
-        rt.alloc(),
-        heap,
-        &mut Disk(rt),
-        &file("dnsprim.toml", CONFIG),
-        origin,
-        with_records,
-        false,
-        out,
-        err,
-    )
+    let config = file("dnsprim.toml", CONFIG);
+    match command {
+        Init(other, _) => {
+            let files = [file("example.zone", EXAMPLE), file("other.zone", other)];
+            init::<Device, _, RecordList, _, _>(run, &config, None, &files)
+        }
+        Dump(origin, _) => dump::<Device, _, RecordList, _, _>(run, &config, origin),
+        DumpAt(serial, _) => {
+            dump_at::<Device, _, RecordList, _, _>(run, &config, "example.", serial)
+        }
+        Diff(from, to, as_update) => {
+            diff::<Device, _, RecordList, _, _>(run, &config, "example.", from, to, as_update)
+        }
+        History(origin, with_records) => {
+            history::<Device, _, RecordList, _, _>(run, &config, origin, with_records)
+        }
+        Migrate(_) => migrate::<Device, _, RecordList, _, _>(run, &config),
+    }
 }
 
 /// The exit status of a command, and what it wrote to the two writers.
-fn run(rt: &HostRuntime, heap: Heap, command: Command, out: &mut Vec<u8>, err: &mut Vec<u8>) -> u8 {
-    let (alloc, config, mut devices) = (rt.alloc(), file("dnsprim.toml", CONFIG), Disk(rt));
-    match command {
-        Init(other, explain) => {
-            let files = [file("example.zone", EXAMPLE), file("other.zone", other)];
-            init::<Device, _, RecordList, _, _>(
-                alloc,
-                heap,
-                &mut devices,
-                &config,
-                None,
-                &files,
-                explain,
-                out,
-                err,
-            )
-        }
-        Dump(origin, explain) => dump::<Device, _, RecordList, _, _>(
-            alloc,
-            heap,
-            &mut devices,
-            &config,
-            origin,
-            explain,
-            out,
-            err,
-        ),
-        DumpAt(serial, explain) => run_dump_at(rt, heap, serial, explain, out, err),
-        Diff(from, to, as_update) => run_diff(rt, heap, (from, to), as_update, out, err),
-        History(origin, with_records) => run_history(rt, heap, origin, with_records, out, err),
-        Migrate(explain) => migrate::<Device, _, RecordList, _, _>(
-            alloc,
-            heap,
-            &mut devices,
-            &config,
-            explain,
-            out,
-            err,
-        ),
-    }
+fn run_command(
+    rt: &HostRuntime,
+    heap: Heap,
+    command: Command,
+    out: &mut Vec<u8>,
+    err: &mut Vec<u8>,
+) -> u8 {
+    let mut run = Run {
+        alloc: rt.alloc(),
+        heap,
+        devices: Disk(rt),
+        explain: explains(command),
+        out,
+        err,
+    };
+    status_of(&mut run, command)
 }
 
 /// What is at the paths of the devices before a command: what the one before left, or in place of the first
@@ -421,7 +362,7 @@ const RUNS: [(Before, Command, u8, &str); 46] = [
 /// nothing where it is done.
 fn ends(rt: &HostRuntime, heap: Heap, command: Command, status: u8, text: &str) -> bool {
     let (mut out, mut err) = (Vec::new(rt.alloc()), Vec::new(rt.alloc()));
-    let ended = run(rt, heap, command, &mut out, &mut err);
+    let ended = run_command(rt, heap, command, &mut out, &mut err);
     let is_told = err.is_empty() == (status == 0);
     ended == status
         && is_told

@@ -143,8 +143,8 @@ fn fetched<S: WaitingStream + Drop, V: Servers<S>, I: ZoneIndex, P: Watch, W: Wr
 /// Unavailable`, `Closed`, `TimedOut`, or by its name the fault for which the answer was refused. For a fault
 /// of the server a second line, if it is wanted, says what can be done. Nothing but that server is connected
 /// to, and it once at most. Returns the exit status: `DONE`, `REFUSED`, or `FAILED` if the server can't be
-/// reached or doesn't answer to the end, a writer failed or memory was refused. `watch` is told of the records
-/// as they come.
+/// reached or doesn't answer to the end, a writer failed or memory was refused. `watch` is told of the
+/// records as they come.
 pub fn fetch<S: WaitingStream + Drop, V: Servers<S>, I: ZoneIndex, P: Watch, W: Write, E: Write>(
     heap: Heap,
     servers: &mut V,

@@ -9,7 +9,7 @@ mod terminal;
 use clap::error::ErrorKind;
 use command::{Asked, Diffing, Fetching, Serving, Task, Words, read_words};
 use dns_commands::{
-    Index, check, check_configuration, compare, diff, dump, dump_at, explain_check,
+    Index, Run, check, check_configuration, compare, diff, dump, dump_at, explain_check,
     explain_devices, explain_origin, explain_other, explain_replay, explain_unmade,
     explain_unreadable, explain_unserved, file, history, init, is_file, load, master_files,
     migrate, octets, replay, warn_of_configuration, zone_file,
@@ -21,7 +21,7 @@ use dns_memory::{Heap, heap};
 use dns_sectors::{DiskFile, FileSectors};
 use dns_service::{ServeOptions, serve};
 use lines::Lines;
-use std::io::{self, Write};
+use std::io::{self, Stderr, Write};
 use std::process::ExitCode;
 use std::{env, fs};
 use terminal::Terminal;
@@ -42,6 +42,23 @@ fn explain_missing<E: Write>(rt: &HostRuntime, file: &File<'_>, err: &mut E) -> 
     match fs::read(rt, file.path) {
         Ok(_) => Ok(()),
         Err(reason) => explain_unreadable(file.path, &reason, err),
+    }
+}
+
+/// What a command runs with: the files of the system, an output, and standard error.
+fn run_of<W>(
+    rt: &HostRuntime,
+    heap: Heap,
+    explain: bool,
+    out: W,
+) -> Run<Disk<'_, HostRuntime>, W, Stderr> {
+    Run {
+        alloc: rt.alloc(),
+        heap,
+        devices: Disk(rt),
+        explain,
+        out,
+        err: rt.stderr(),
     }
 }
 
@@ -205,18 +222,8 @@ fn run_init(
     for (path, text) in &texts {
         files.push(file(path, text))?;
     }
-    let (mut out, mut err) = (io::writer(rt), rt.stderr());
-    let status = init::<Device, _, Index, _, _>(
-        rt.alloc(),
-        heap,
-        &mut Disk(rt),
-        &config,
-        origin,
-        &files,
-        explain,
-        &mut out,
-        &mut err,
-    );
+    let mut run = run_of(rt, heap, explain, io::writer(rt));
+    let status = init::<Device, _, Index, _, _>(&mut run, &config, origin, &files);
     if explain && status == REFUSED {
         match origin {
             Some(origin) => explain_load(rt, heap, &config, &files, origin)?,
@@ -224,7 +231,7 @@ fn run_init(
         }
     }
     if explain && status == FAILED {
-        explain_unmade(rt, heap, &config, origin, &mut err)?;
+        explain_unmade(rt, heap, &config, origin, &mut run.err)?;
     }
     Ok(status)
 }
@@ -256,32 +263,13 @@ fn run_dump(
 ) -> io::Result<u8> {
     let text = octets(rt, config)?;
     let config = file(config, &text);
-    let mut out = io::BufWriter::new(rt.alloc(), io::writer(rt))?;
-    let mut err = rt.stderr();
+    let out = io::BufWriter::new(rt.alloc(), io::writer(rt))?;
+    let mut run = run_of(rt, heap, explain, out);
     let status = match serial {
-        Some(serial) => dump_at::<Device, _, Index, _, _>(
-            rt.alloc(),
-            heap,
-            &mut Disk(rt),
-            &config,
-            origin,
-            serial,
-            explain,
-            &mut out,
-            &mut err,
-        ),
-        None => dump::<Device, _, Index, _, _>(
-            rt.alloc(),
-            heap,
-            &mut Disk(rt),
-            &config,
-            origin,
-            explain,
-            &mut out,
-            &mut err,
-        ),
+        Some(serial) => dump_at::<Device, _, Index, _, _>(&mut run, &config, origin, serial),
+        None => dump::<Device, _, Index, _, _>(&mut run, &config, origin),
     };
-    out.flush()?;
+    run.out.flush()?;
     explain_looked(rt, heap, &config, origin, explain, status)
 }
 
@@ -289,22 +277,17 @@ fn run_dump(
 fn run_diff(rt: &HostRuntime, heap: Heap, words: Diffing<'_>, explain: bool) -> io::Result<u8> {
     let text = octets(rt, words.config)?;
     let config = file(words.config, &text);
-    let mut out = io::BufWriter::new(rt.alloc(), io::writer(rt))?;
-    let mut err = rt.stderr();
+    let out = io::BufWriter::new(rt.alloc(), io::writer(rt))?;
+    let mut run = run_of(rt, heap, explain, out);
     let status = diff::<Device, _, Index, _, _>(
-        rt.alloc(),
-        heap,
-        &mut Disk(rt),
+        &mut run,
         &config,
         words.origin,
         words.from,
         words.to,
         words.as_update,
-        explain,
-        &mut out,
-        &mut err,
     );
-    out.flush()?;
+    run.out.flush()?;
     explain_looked(rt, heap, &config, words.origin, explain, status)
 }
 
@@ -319,20 +302,10 @@ fn run_history(
 ) -> io::Result<u8> {
     let text = octets(rt, config)?;
     let config = file(config, &text);
-    let mut out = io::BufWriter::new(rt.alloc(), io::writer(rt))?;
-    let mut err = rt.stderr();
-    let status = history::<Device, _, Index, _, _>(
-        rt.alloc(),
-        heap,
-        &mut Disk(rt),
-        &config,
-        origin,
-        with_records,
-        explain,
-        &mut out,
-        &mut err,
-    );
-    out.flush()?;
+    let out = io::BufWriter::new(rt.alloc(), io::writer(rt))?;
+    let mut run = run_of(rt, heap, explain, out);
+    let status = history::<Device, _, Index, _, _>(&mut run, &config, origin, with_records);
+    run.out.flush()?;
     explain_looked(rt, heap, &config, origin, explain, status)
 }
 
@@ -352,34 +325,14 @@ fn run_load(
     for (path, text) in &texts {
         files.push(file(path, text))?;
     }
-    let mut out = io::BufWriter::new(rt.alloc(), io::writer(rt))?;
-    let mut err = rt.stderr();
+    let out = io::BufWriter::new(rt.alloc(), io::writer(rt))?;
+    let mut run = run_of(rt, heap, explain, out);
     let status = if dry_run {
-        compare::<Device, _, Index, _, _>(
-            rt.alloc(),
-            heap,
-            &mut Disk(rt),
-            &config,
-            &files,
-            origin,
-            explain,
-            &mut out,
-            &mut err,
-        )
+        compare::<Device, _, Index, _, _>(&mut run, &config, &files, origin)
     } else {
-        load::<Device, _, Index, _, _>(
-            rt.alloc(),
-            heap,
-            &mut Disk(rt),
-            &config,
-            &files,
-            origin,
-            explain,
-            &mut out,
-            &mut err,
-        )
+        load::<Device, _, Index, _, _>(&mut run, &config, &files, origin)
     };
-    out.flush()?;
+    run.out.flush()?;
     if explain && status == REFUSED {
         explain_load(rt, heap, &config, &files, origin)?;
     }
@@ -390,16 +343,8 @@ fn run_load(
 fn run_migrate(rt: &HostRuntime, heap: Heap, config: &str, explain: bool) -> io::Result<u8> {
     let text = octets(rt, config)?;
     let config = file(config, &text);
-    let (mut out, mut err) = (io::writer(rt), rt.stderr());
-    let status = migrate::<Device, _, Index, _, _>(
-        rt.alloc(),
-        heap,
-        &mut Disk(rt),
-        &config,
-        explain,
-        &mut out,
-        &mut err,
-    );
+    let mut run = run_of(rt, heap, explain, io::writer(rt));
+    let status = migrate::<Device, _, Index, _, _>(&mut run, &config);
     if explain && status == REFUSED {
         explain_files(rt, heap, &config, &[])?;
     }

@@ -23,7 +23,7 @@ fn has_sectors<I: ZoneIndex>(own: &ZoneSettings, zone: &Zone<I>) -> bool
 }
 
 /// The path of the first device in which the zone has no room.
-fn first_too_large<'s, I: ZoneIndex>(
+pub(crate) fn first_too_large<'s, I: ZoneIndex>(
     settings: &'s [ZoneSettings],
     zones: &[Zone<I>],
 ) -> Option<&'s str>

@@ -8,15 +8,15 @@ ghost use Rattle.dns_devices.specs.Stores.{own_shape};
 ghost use Rattle.dns_commands.specs.Compare.{ComparingEnds, ComparisonEnds, HasNoDifference, IsChangeWithin};
 ghost use Rattle.dns_commands.specs.Compare.{IsDifference, IsWithinRoom, change_lines, difference_text};
 ghost use Rattle.dns_commands.specs.Compare.{signed_lines};
+ghost use Rattle.dns_commands.specs.Frame.{RunEnds};
 ghost use Rattle.dns_commands.specs.Load.{IsChangeTo};
 
 use crate::change::change_to;
 use crate::commands::load::path_blamed;
+use crate::frame::{Run, zone_named};
 use crate::next_version::has_room;
 use dns_changes::Change;
-use dns_configuration::{
-    DONE, FAILED, Fault, File, ZoneSettings, apex, load_one, read_configuration, tell, zone_of,
-};
+use dns_configuration::{DONE, FAILED, File, ZoneSettings, load_one, tell};
 use dns_devices::{DeviceFault, Devices, open_store, tell_device};
 use dns_layout::entry_sectors;
 use dns_masterfile::RecordLine;
@@ -25,7 +25,6 @@ use dns_records::Record;
 use dns_sectors::Sectors;
 use dns_store::ZoneStore;
 use dns_zone::{Zone, ZoneIndex};
-use std::alloc::Global;
 use std::io::{self, Write};
 
 /// Prints a record after a sign.
@@ -131,58 +130,39 @@ fn difference<D: Sectors + Drop, F: Devices<D>, I: ZoneIndex>(
 
 /// Compares the master file of a zone with its device, and gives the exit status.
 fn compare_own<D: Sectors + Drop, F: Devices<D>, I: ZoneIndex, W: Write, E: Write>(
-    heap: Heap,
-    devices: &mut F,
+    run: &mut Run<F, W, E>,
     own: &ZoneSettings,
     files: &[File<'_>],
-    explain: bool,
-    out: &mut W,
-    err: &mut E,
 ) -> io::Result<u8>
-    ensures { Calls (F.calls devices.old) (F.calls devices.new)
-        (λ calls. ComparingEnds D.Sectors calls own.now files.now explain (W.contents out.old)
-        (W.contents out.new) (E.contents err.old) (E.contents err.new) (result_unwrap_or result FAILED)) }
+    ensures { RunEnds F.calls W.contents E.contents run.old run.new (result_unwrap_or result FAILED)
+        (ComparingEnds D.Sectors files.now own.now) }
 {
-    let zone: Zone<I> = match load_one(heap, files, own) {
+    let zone: Zone<I> = match load_one(run.heap, files, own) {
         Ok(zone) => zone,
-        Err(fault) => return tell(err, &own.file, fault),
+        Err(fault) => return tell(&mut run.err, &own.file, fault),
     };
-    match difference::<D, F, I>(heap, devices, own, &zone) {
+    match difference::<D, F, I>(run.heap, &mut run.devices, own, &zone) {
         Ok(change) => {
-            print_difference(out, own, &change)?;
+            print_difference(&mut run.out, own, &change)?;
             Ok(DONE)
         }
-        Err(fault) => tell_device(err, path_blamed(own, fault), fault, explain),
+        Err(fault) => tell_device(&mut run.err, path_blamed(own, fault), fault, run.explain),
     }
 }
 
 /// Compares the master file of the zone of that name with its device, and gives the exit status.
 fn compare_named<D: Sectors + Drop, F: Devices<D>, I: ZoneIndex, W: Write, E: Write>(
-    alloc: Global,
-    heap: Heap,
-    devices: &mut F,
+    run: &mut Run<F, W, E>,
     config: &File<'_>,
     files: &[File<'_>],
     origin: &str,
-    explain: bool,
-    out: &mut W,
-    err: &mut E,
 ) -> io::Result<u8>
-    ensures { Calls (F.calls devices.old) (F.calls devices.new)
-        (λ calls. ComparisonEnds D.Sectors calls config.now files.now origin.now explain (W.contents out.old)
-        (W.contents out.new) (E.contents err.old) (E.contents err.new) (result_unwrap_or result FAILED)) }
+    ensures { RunEnds F.calls W.contents E.contents run.old run.new (result_unwrap_or result FAILED)
+        (ComparisonEnds D.Sectors config.now files.now origin.now) }
 {
-    let zones = match read_configuration(alloc, heap, config) {
-        Ok(configuration) => configuration.zones,
-        Err(fault) => return tell(err, config.path, fault),
-    };
-    let name = match apex(heap, origin) {
-        Ok(name) => name,
-        Err(fault) => return tell(err, origin, fault),
-    };
-    match zone_of(&zones, &name) {
-        Some(own) => compare_own::<D, F, I, W, E>(heap, devices, own, files, explain, out, err),
-        None => tell(err, origin, Fault::BadOrigin),
+    match zone_named(run.alloc, run.heap, config, origin) {
+        Ok(own) => compare_own::<D, F, I, W, E>(run, &own, files),
+        Err((word, fault)) => tell(&mut run.err, word, fault),
     }
 }
 
@@ -194,22 +174,13 @@ fn compare_named<D: Sectors + Drop, F: Devices<D>, I: ZoneIndex, W: Write, E: Wr
 /// more opening. Returns the exit status: `DONE`, `REFUSED`, or `FAILED` if the device can't be had, a writer
 /// failed or memory was refused.
 pub fn compare<D: Sectors + Drop, F: Devices<D>, I: ZoneIndex, W: Write, E: Write>(
-    alloc: Global,
-    heap: Heap,
-    devices: &mut F,
+    run: &mut Run<F, W, E>,
     config: &File<'_>,
     files: &[File<'_>],
     origin: &str,
-    explain: bool,
-    out: &mut W,
-    err: &mut E,
 ) -> u8
-    ensures { Calls (F.calls devices.old) (F.calls devices.new)
-        (λ calls. ComparisonEnds D.Sectors calls config.now files.now origin.now explain (W.contents out.old)
-        (W.contents out.new) (E.contents err.old) (E.contents err.new) result) }
+    ensures { RunEnds F.calls W.contents E.contents run.old run.new result
+        (ComparisonEnds D.Sectors config.now files.now origin.now) }
 {
-    compare_named::<D, F, I, W, E>(
-        alloc, heap, devices, config, files, origin, explain, out, err,
-    )
-    .unwrap_or(FAILED)
+    compare_named::<D, F, I, W, E>(run, config, files, origin).unwrap_or(FAILED)
 }

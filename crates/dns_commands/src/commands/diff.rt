@@ -9,18 +9,18 @@ ghost use Rattle.dns_store.specs.Recovered.{AreLed};
 ghost use Rattle.dns_store.specs.Versions.{Versions};
 ghost use Rattle.dns_configuration.specs.Calls.{Calls};
 ghost use Rattle.dns_devices.specs.DeviceFaults.{status_of};
-ghost use Rattle.dns_commands.specs.Diff.{DiffEnds, DiffingEnds, HasNoDifference, IsBetweenThese};
-ghost use Rattle.dns_commands.specs.Diff.{IsDifferenceFrom, IsDifferenceTo, IsFound, deleted_first};
+ghost use Rattle.dns_commands.specs.Diff.{DiffEnds, DiffingEnds, HasNoDiff, IsBetweenThese};
+ghost use Rattle.dns_commands.specs.Diff.{IsDifferenceFrom, IsDifferenceTo, HasDiff, deleted_first};
 ghost use Rattle.dns_commands.specs.Diff.{deleted_last, diff_text, is_apex_ns, undo_text};
 ghost use Rattle.dns_commands.specs.Compare.{signed_lines};
+ghost use Rattle.dns_commands.specs.Frame.{RunEnds};
 
 use crate::change::{change_between, is_no_change};
 use crate::commands::compare::{print_change, print_record, print_records};
 use crate::commands::dump_at::{tell_unfound, version_with};
+use crate::frame::{Run, zone_named};
 use dns_changes::Change;
-use dns_configuration::{
-    DONE, FAILED, Fault, File, ZoneSettings, apex, read_configuration, tell, zone_of,
-};
+use dns_configuration::{DONE, FAILED, File, ZoneSettings, tell};
 use dns_devices::{DeviceFault, Devices, open_store, tell_device};
 use dns_memory::Heap;
 use dns_names::Name;
@@ -29,7 +29,7 @@ use dns_records::types::NS;
 use dns_sectors::Sectors;
 use dns_store::ZoneStore;
 use dns_zone::{Zone, ZoneIndex, find_record};
-use std::alloc::{AllocError, Global};
+use std::alloc::AllocError;
 use std::io::{self, Write};
 
 /// The change between two versions, or none if they have the same records; or the serial that no version has.
@@ -120,8 +120,8 @@ fn difference_in<D: Sectors + Drop, F: Devices<D>, I: ZoneIndex>(
     to: Option<u32>,
 ) -> Result<Answer, DeviceFault>
     ensures { Calls (F.calls devices.old) (F.calls devices.new)
-        (λ calls. MatchResult result (IsFound D.Sectors calls own.now from to)
-        (HasNoDifference D.Sectors calls own.now from to)) }
+        (λ calls. MatchResult result (HasDiff D.Sectors calls own.now from to)
+        (HasNoDiff D.Sectors calls own.now from to)) }
 {
     match open_store::<D, F, I>(heap, devices, own) {
         Ok((store, newest)) => {
@@ -232,62 +232,40 @@ fn print_difference<W: Write>(
 
 /// Prints the difference of two versions of the device of a zone, and returns the exit status.
 fn show<D: Sectors + Drop, F: Devices<D>, I: ZoneIndex, W: Write, E: Write>(
-    heap: Heap,
-    devices: &mut F,
+    run: &mut Run<F, W, E>,
     own: &ZoneSettings,
     from: u32,
     to: Option<u32>,
     as_update: bool,
-    explain: bool,
-    out: &mut W,
-    err: &mut E,
 ) -> io::Result<u8>
-    ensures { Calls (F.calls devices.old) (F.calls devices.new)
-        (λ calls. DiffingEnds D.Sectors calls own.now from to as_update explain (W.contents out.old)
-        (W.contents out.new) (E.contents err.old) (E.contents err.new) (result_unwrap_or result FAILED)) }
+    ensures { RunEnds F.calls W.contents E.contents run.old run.new (result_unwrap_or result FAILED)
+        (DiffingEnds D.Sectors from to as_update own.now) }
 {
-    match difference_in::<D, F, I>(heap, devices, own, from, to) {
+    match difference_in::<D, F, I>(run.heap, &mut run.devices, own, from, to) {
         Ok(Ok(change)) => {
-            print_difference(out, own, &change, as_update)?;
+            print_difference(&mut run.out, own, &change, as_update)?;
             Ok(DONE)
         }
-        Ok(Err(serial)) => tell_unfound(err, serial, explain),
-        Err(fault) => tell_device(err, &own.device, fault, explain),
+        Ok(Err(serial)) => tell_unfound(&mut run.err, serial, run.explain),
+        Err(fault) => tell_device(&mut run.err, &own.device, fault, run.explain),
     }
 }
 
 /// Prints the difference of two versions of the zone of that name, and returns the exit status.
 fn diff_named<D: Sectors + Drop, F: Devices<D>, I: ZoneIndex, W: Write, E: Write>(
-    alloc: Global,
-    heap: Heap,
-    devices: &mut F,
+    run: &mut Run<F, W, E>,
     config: &File<'_>,
     origin: &str,
     from: u32,
     to: Option<u32>,
     as_update: bool,
-    explain: bool,
-    out: &mut W,
-    err: &mut E,
 ) -> io::Result<u8>
-    ensures { Calls (F.calls devices.old) (F.calls devices.new)
-        (λ calls. DiffEnds D.Sectors calls config.now origin.now from to as_update explain
-        (W.contents out.old) (W.contents out.new) (E.contents err.old) (E.contents err.new)
-        (result_unwrap_or result FAILED)) }
+    ensures { RunEnds F.calls W.contents E.contents run.old run.new (result_unwrap_or result FAILED)
+        (DiffEnds D.Sectors config.now origin.now from to as_update) }
 {
-    let zones = match read_configuration(alloc, heap, config) {
-        Ok(configuration) => configuration.zones,
-        Err(fault) => return tell(err, config.path, fault),
-    };
-    let name = match apex(heap, origin) {
-        Ok(name) => name,
-        Err(fault) => return tell(err, origin, fault),
-    };
-    match zone_of(&zones, &name) {
-        Some(own) => show::<D, F, I, W, E>(
-            heap, devices, own, from, to, as_update, explain, out, err,
-        ),
-        None => tell(err, origin, Fault::BadOrigin),
+    match zone_named(run.alloc, run.heap, config, origin) {
+        Ok(own) => show::<D, F, I, W, E>(run, &own, from, to, as_update),
+        Err((word, fault)) => tell(&mut run.err, word, fault),
     }
 }
 
@@ -301,24 +279,15 @@ fn diff_named<D: Sectors + Drop, F: Devices<D>, I: ZoneIndex, W: Write, E: Write
 /// looked into: it keeps its versions, and counts one more opening. Returns the exit status: `DONE`,
 /// `REFUSED`, or `FAILED` if the device can't be had, a writer failed or memory was refused.
 pub fn diff<D: Sectors + Drop, F: Devices<D>, I: ZoneIndex, W: Write, E: Write>(
-    alloc: Global,
-    heap: Heap,
-    devices: &mut F,
+    run: &mut Run<F, W, E>,
     config: &File<'_>,
     origin: &str,
     from: u32,
     to: Option<u32>,
     as_update: bool,
-    explain: bool,
-    out: &mut W,
-    err: &mut E,
 ) -> u8
-    ensures { Calls (F.calls devices.old) (F.calls devices.new)
-        (λ calls. DiffEnds D.Sectors calls config.now origin.now from to as_update explain
-        (W.contents out.old) (W.contents out.new) (E.contents err.old) (E.contents err.new) result) }
+    ensures { RunEnds F.calls W.contents E.contents run.old run.new result
+        (DiffEnds D.Sectors config.now origin.now from to as_update) }
 {
-    diff_named::<D, F, I, W, E>(
-        alloc, heap, devices, config, origin, from, to, as_update, explain, out, err,
-    )
-    .unwrap_or(FAILED)
+    diff_named::<D, F, I, W, E>(run, config, origin, from, to, as_update).unwrap_or(FAILED)
 }

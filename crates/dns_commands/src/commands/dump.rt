@@ -1,90 +1,60 @@
 //! Devices that are shown: the zone that one keeps, as a master file.
 ghost use Rattle.std.specs.Result.{result_unwrap_or};
-ghost use Rattle.dns_configuration.specs.Calls.{Calls};
 ghost use Rattle.dns_commands.specs.Dump.{DumpEnds, ShowingEnds};
+ghost use Rattle.dns_commands.specs.Frame.{RunEnds};
 
-use dns_configuration::{
-    DONE, FAILED, Fault, File, ZoneSettings, apex, read_configuration, tell, zone_of,
-};
+use crate::frame::{Run, zone_named};
+use dns_configuration::{DONE, FAILED, File, ZoneSettings, tell};
 use dns_devices::{Devices, open_zone, tell_device};
 use dns_masterfile::print_zone;
-use dns_memory::Heap;
 use dns_sectors::Sectors;
 use dns_zone::ZoneIndex;
-use std::alloc::Global;
 use std::io::{self, Write};
 
-/// Shows the device of a zone, and gives the exit status.
+/// Shows the device of a zone, and returns the exit status.
 fn show<D: Sectors + Drop, F: Devices<D>, I: ZoneIndex, W: Write, E: Write>(
-    heap: Heap,
-    devices: &mut F,
+    run: &mut Run<F, W, E>,
     own: &ZoneSettings,
-    explain: bool,
-    out: &mut W,
-    err: &mut E,
 ) -> io::Result<u8>
-    ensures { Calls (F.calls devices.old) (F.calls devices.new)
-        (λ calls. ShowingEnds D.Sectors calls own.now explain (W.contents out.old) (W.contents out.new)
-        (E.contents err.old) (E.contents err.new) (result_unwrap_or result FAILED)) }
+    ensures { RunEnds F.calls W.contents E.contents run.old run.new (result_unwrap_or result FAILED)
+        (ShowingEnds D.Sectors own.now) }
 {
-    match open_zone::<D, F, I>(heap, devices, own) {
+    match open_zone::<D, F, I>(run.heap, &mut run.devices, own) {
         Ok(zone) => {
-            print_zone(&zone, out)?;
+            print_zone(&zone, &mut run.out)?;
             Ok(DONE)
         }
-        Err(fault) => tell_device(err, &own.device, fault, explain),
+        Err(fault) => tell_device(&mut run.err, &own.device, fault, run.explain),
     }
 }
 
-/// Prints the zone of a device, and gives the exit status.
+/// Prints the zone of a device, and returns the exit status.
 fn dump_zone<D: Sectors + Drop, F: Devices<D>, I: ZoneIndex, W: Write, E: Write>(
-    alloc: Global,
-    heap: Heap,
-    devices: &mut F,
+    run: &mut Run<F, W, E>,
     config: &File<'_>,
     origin: &str,
-    explain: bool,
-    out: &mut W,
-    err: &mut E,
 ) -> io::Result<u8>
-    ensures { Calls (F.calls devices.old) (F.calls devices.new)
-        (λ calls. DumpEnds D.Sectors calls config.now origin.now explain (W.contents out.old)
-        (W.contents out.new) (E.contents err.old) (E.contents err.new) (result_unwrap_or result FAILED)) }
+    ensures { RunEnds F.calls W.contents E.contents run.old run.new (result_unwrap_or result FAILED)
+        (DumpEnds D.Sectors config.now origin.now) }
 {
-    let zones = match read_configuration(alloc, heap, config) {
-        Ok(configuration) => configuration.zones,
-        Err(fault) => return tell(err, config.path, fault),
-    };
-    let name = match apex(heap, origin) {
-        Ok(name) => name,
-        Err(fault) => return tell(err, origin, fault),
-    };
-    match zone_of(&zones, &name) {
-        Some(own) => show::<D, F, I, W, E>(heap, devices, own, explain, out, err),
-        None => tell(err, origin, Fault::BadOrigin),
+    match zone_named(run.alloc, run.heap, config, origin) {
+        Ok(own) => show::<D, F, I, W, E>(run, &own),
+        Err((word, fault)) => tell(&mut run.err, word, fault),
     }
 }
 
 /// Prints the zone that the device of a configuration's zone keeps, as a master file. Faults are reported in
 /// one line, the first in this order: the configuration, the origin (`ORIGIN: BadOrigin`), the device, of
 /// which, if it is wanted, a second line says what can be done. The device is only looked into: it keeps its
-/// version, and counts one more opening. Returns the exit status: `DONE`, `REFUSED`, or `FAILED` if the device
-/// can't be had, a writer failed or memory was refused.
+/// version, and counts one more opening. Returns the exit status: `DONE`, `REFUSED`, or `FAILED` if the
+/// device can't be had, a writer failed or memory was refused.
 pub fn dump<D: Sectors + Drop, F: Devices<D>, I: ZoneIndex, W: Write, E: Write>(
-    alloc: Global,
-    heap: Heap,
-    devices: &mut F,
+    run: &mut Run<F, W, E>,
     config: &File<'_>,
     origin: &str,
-    explain: bool,
-    out: &mut W,
-    err: &mut E,
 ) -> u8
-    ensures { Calls (F.calls devices.old) (F.calls devices.new)
-        (λ calls. DumpEnds D.Sectors calls config.now origin.now explain (W.contents out.old)
-        (W.contents out.new) (E.contents err.old) (E.contents err.new) result) }
+    ensures { RunEnds F.calls W.contents E.contents run.old run.new result
+        (DumpEnds D.Sectors config.now origin.now) }
 {
-    dump_zone::<D, F, I, W, E>(alloc, heap, devices, config, origin, explain, out, err).unwrap_or(
-        FAILED,
-    )
+    dump_zone::<D, F, I, W, E>(run, config, origin).unwrap_or(FAILED)
 }

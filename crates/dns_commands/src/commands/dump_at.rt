@@ -10,13 +10,13 @@ ghost use Rattle.dns_store.specs.Versions.{Versions, newest_after};
 ghost use Rattle.dns_configuration.specs.Calls.{Calls};
 ghost use Rattle.dns_configuration.specs.Faults.{line};
 ghost use Rattle.dns_devices.specs.DeviceFaults.{status_of};
-ghost use Rattle.dns_commands.specs.DumpAt.{DumpAtEnds, HasNoAnswer, IsAnswered, IsChosenFrom, PickingEnds};
+ghost use Rattle.dns_commands.specs.DumpAt.{DumpAtEnds, HasNoAnswer, HasAnswer, IsChosenFrom, PickingEnds};
 ghost use Rattle.dns_commands.specs.DumpAt.{unfound_text};
+ghost use Rattle.dns_commands.specs.Frame.{RunEnds};
 
+use crate::frame::{Run, zone_named};
 use dns_changes::{Change, ChangeError};
-use dns_configuration::{
-    DONE, FAILED, Fault, File, REFUSED, ZoneSettings, apex, read_configuration, tell, zone_of,
-};
+use dns_configuration::{DONE, FAILED, File, REFUSED, ZoneSettings, tell};
 use dns_devices::{DeviceFault, Devices, open_store, tell_device};
 use dns_masterfile::print_zone;
 use dns_memory::Heap;
@@ -24,7 +24,6 @@ use dns_sectors::Sectors;
 use dns_store::ZoneStore;
 use dns_transfer::{Form, choose_form};
 use dns_zone::{Zone, ZoneIndex};
-use std::alloc::Global;
 use std::fmt;
 use std::io::{self, Write};
 
@@ -105,7 +104,7 @@ fn pick<D: Sectors + Drop, F: Devices<D>, I: ZoneIndex>(
     serial: u32,
 ) -> Result<Option<Zone<I>>, DeviceFault>
     ensures { Calls (F.calls devices.old) (F.calls devices.new)
-        (λ calls. MatchResult result (IsAnswered D.Sectors calls own.now serial)
+        (λ calls. MatchResult result (HasAnswer D.Sectors calls own.now serial)
         (HasNoAnswer D.Sectors calls own.now serial)) }
 {
     match open_store::<D, F, I>(heap, devices, own) {
@@ -153,55 +152,36 @@ pub(crate) fn tell_unfound<E: Write>(err: &mut E, serial: u32, explain: bool) ->
 
 /// Shows the version with a serial of the device of a zone, and returns the exit status.
 fn show_at<D: Sectors + Drop, F: Devices<D>, I: ZoneIndex, W: Write, E: Write>(
-    heap: Heap,
-    devices: &mut F,
+    run: &mut Run<F, W, E>,
     own: &ZoneSettings,
     serial: u32,
-    explain: bool,
-    out: &mut W,
-    err: &mut E,
 ) -> io::Result<u8>
-    ensures { Calls (F.calls devices.old) (F.calls devices.new)
-        (λ calls. PickingEnds D.Sectors calls own.now serial explain (W.contents out.old)
-        (W.contents out.new) (E.contents err.old) (E.contents err.new) (result_unwrap_or result FAILED)) }
+    ensures { RunEnds F.calls W.contents E.contents run.old run.new (result_unwrap_or result FAILED)
+        (PickingEnds D.Sectors serial own.now) }
 {
-    match pick::<D, F, I>(heap, devices, own, serial) {
+    match pick::<D, F, I>(run.heap, &mut run.devices, own, serial) {
         Ok(Some(zone)) => {
-            print_zone(&zone, out)?;
+            print_zone(&zone, &mut run.out)?;
             Ok(DONE)
         }
-        Ok(None) => tell_unfound(err, serial, explain),
-        Err(fault) => tell_device(err, &own.device, fault, explain),
+        Ok(None) => tell_unfound(&mut run.err, serial, run.explain),
+        Err(fault) => tell_device(&mut run.err, &own.device, fault, run.explain),
     }
 }
 
 /// Prints the version with a serial of the zone of that name, and returns the exit status.
 fn dump_named_at<D: Sectors + Drop, F: Devices<D>, I: ZoneIndex, W: Write, E: Write>(
-    alloc: Global,
-    heap: Heap,
-    devices: &mut F,
+    run: &mut Run<F, W, E>,
     config: &File<'_>,
     origin: &str,
     serial: u32,
-    explain: bool,
-    out: &mut W,
-    err: &mut E,
 ) -> io::Result<u8>
-    ensures { Calls (F.calls devices.old) (F.calls devices.new)
-        (λ calls. DumpAtEnds D.Sectors calls config.now origin.now serial explain (W.contents out.old)
-        (W.contents out.new) (E.contents err.old) (E.contents err.new) (result_unwrap_or result FAILED)) }
+    ensures { RunEnds F.calls W.contents E.contents run.old run.new (result_unwrap_or result FAILED)
+        (DumpAtEnds D.Sectors config.now origin.now serial) }
 {
-    let zones = match read_configuration(alloc, heap, config) {
-        Ok(configuration) => configuration.zones,
-        Err(fault) => return tell(err, config.path, fault),
-    };
-    let name = match apex(heap, origin) {
-        Ok(name) => name,
-        Err(fault) => return tell(err, origin, fault),
-    };
-    match zone_of(&zones, &name) {
-        Some(own) => show_at::<D, F, I, W, E>(heap, devices, own, serial, explain, out, err),
-        None => tell(err, origin, Fault::BadOrigin),
+    match zone_named(run.alloc, run.heap, config, origin) {
+        Ok(own) => show_at::<D, F, I, W, E>(run, &own, serial),
+        Err((word, fault)) => tell(&mut run.err, word, fault),
     }
 }
 
@@ -213,22 +193,13 @@ fn dump_named_at<D: Sectors + Drop, F: Devices<D>, I: ZoneIndex, W: Write, E: Wr
 /// counts one more opening. Returns the exit status: `DONE`, `REFUSED`, or `FAILED` if the device can't be
 /// had, a writer failed or memory was refused.
 pub fn dump_at<D: Sectors + Drop, F: Devices<D>, I: ZoneIndex, W: Write, E: Write>(
-    alloc: Global,
-    heap: Heap,
-    devices: &mut F,
+    run: &mut Run<F, W, E>,
     config: &File<'_>,
     origin: &str,
     serial: u32,
-    explain: bool,
-    out: &mut W,
-    err: &mut E,
 ) -> u8
-    ensures { Calls (F.calls devices.old) (F.calls devices.new)
-        (λ calls. DumpAtEnds D.Sectors calls config.now origin.now serial explain (W.contents out.old)
-        (W.contents out.new) (E.contents err.old) (E.contents err.new) result) }
+    ensures { RunEnds F.calls W.contents E.contents run.old run.new result
+        (DumpAtEnds D.Sectors config.now origin.now serial) }
 {
-    dump_named_at::<D, F, I, W, E>(
-        alloc, heap, devices, config, origin, serial, explain, out, err,
-    )
-    .unwrap_or(FAILED)
+    dump_named_at::<D, F, I, W, E>(run, config, origin, serial).unwrap_or(FAILED)
 }

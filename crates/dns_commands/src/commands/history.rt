@@ -9,24 +9,21 @@ ghost use Rattle.dns_changes.specs.Version.{serial_in};
 ghost use Rattle.dns_store.specs.Recovered.{AreLed};
 ghost use Rattle.dns_store.specs.Versions.{Versions, newest_after};
 ghost use Rattle.dns_transfer.specs.Form.{is_journalled};
-ghost use Rattle.dns_configuration.specs.Calls.{Calls};
 ghost use Rattle.dns_configuration.specs.Faults.{line};
+ghost use Rattle.dns_commands.specs.Frame.{RunEnds};
 ghost use Rattle.dns_commands.specs.History.{HistoryEnds, ListingEnds, history_of, history_text};
 ghost use Rattle.dns_commands.specs.History.{step_line, step_text, steps_text, version_text};
 
 use crate::commands::compare::print_change;
 use crate::commands::load::print_difference;
+use crate::frame::{Run, zone_named};
 use dns_changes::Change;
-use dns_configuration::{
-    DONE, FAILED, Fault, File, ZoneSettings, apex, read_configuration, tell, zone_of,
-};
+use dns_configuration::{DONE, FAILED, File, ZoneSettings, tell};
 use dns_devices::{Devices, open_store, tell_device};
-use dns_memory::Heap;
 use dns_sectors::Sectors;
 use dns_serial::Serial;
 use dns_store::ZoneStore;
 use dns_zone::{Zone, ZoneIndex};
-use std::alloc::Global;
 use std::io::{self, Write};
 
 /// Prints the number and the serial of a version.
@@ -153,61 +150,41 @@ fn first_serial<I: ZoneIndex>(newest: &Zone<I>, changes: &[Change]) -> u32
 /// Prints the journalled versions of the device of a zone, and returns the exit status. The device is closed
 /// before an error of the writer is returned.
 fn list<D: Sectors + Drop, F: Devices<D>, I: ZoneIndex, W: Write, E: Write>(
-    heap: Heap,
-    devices: &mut F,
+    run: &mut Run<F, W, E>,
     own: &ZoneSettings,
     with_records: bool,
-    explain: bool,
-    out: &mut W,
-    err: &mut E,
 ) -> io::Result<u8>
-    ensures { Calls (F.calls devices.old) (F.calls devices.new)
-        (λ calls. ListingEnds D.Sectors calls own.now with_records explain (W.contents out.old)
-        (W.contents out.new) (E.contents err.old) (E.contents err.new) (result_unwrap_or result FAILED)) }
+    ensures { RunEnds F.calls W.contents E.contents run.old run.new (result_unwrap_or result FAILED)
+        (ListingEnds D.Sectors with_records own.now) }
 {
-    match open_store::<D, F, I>(heap, devices, own) {
+    match open_store::<D, F, I>(run.heap, &mut run.devices, own) {
         Ok((store, newest)) => {
             let kept = store.changes();
             let changes = &kept[first_journalled(kept)..];
             let base = store.newest().saturating_sub(changes.len() as u64);
             let serial = first_serial(&newest, changes);
-            let printed = print_history(out, base, serial, changes, with_records);
-            devices.close(&own.device, store.into_device());
+            let printed = print_history(&mut run.out, base, serial, changes, with_records);
+            run.devices.close(&own.device, store.into_device());
             printed?;
             Ok(DONE)
         }
-        Err(fault) => tell_device(err, &own.device, fault, explain),
+        Err(fault) => tell_device(&mut run.err, &own.device, fault, run.explain),
     }
 }
 
 /// Prints the journalled versions of the zone of that name, and returns the exit status.
 fn list_named<D: Sectors + Drop, F: Devices<D>, I: ZoneIndex, W: Write, E: Write>(
-    alloc: Global,
-    heap: Heap,
-    devices: &mut F,
+    run: &mut Run<F, W, E>,
     config: &File<'_>,
     origin: &str,
     with_records: bool,
-    explain: bool,
-    out: &mut W,
-    err: &mut E,
 ) -> io::Result<u8>
-    ensures { Calls (F.calls devices.old) (F.calls devices.new)
-        (λ calls. HistoryEnds D.Sectors calls config.now origin.now with_records explain
-        (W.contents out.old) (W.contents out.new) (E.contents err.old) (E.contents err.new)
-        (result_unwrap_or result FAILED)) }
+    ensures { RunEnds F.calls W.contents E.contents run.old run.new (result_unwrap_or result FAILED)
+        (HistoryEnds D.Sectors config.now origin.now with_records) }
 {
-    let zones = match read_configuration(alloc, heap, config) {
-        Ok(configuration) => configuration.zones,
-        Err(fault) => return tell(err, config.path, fault),
-    };
-    let name = match apex(heap, origin) {
-        Ok(name) => name,
-        Err(fault) => return tell(err, origin, fault),
-    };
-    match zone_of(&zones, &name) {
-        Some(own) => { list::<D, F, I, W, E>(heap, devices, own, with_records, explain, out, err) }
-        None => tell(err, origin, Fault::BadOrigin),
+    match zone_named(run.alloc, run.heap, config, origin) {
+        Ok(own) => list::<D, F, I, W, E>(run, &own, with_records),
+        Err((word, fault)) => tell(&mut run.err, word, fault),
     }
 }
 
@@ -221,30 +198,13 @@ fn list_named<D: Sectors + Drop, F: Devices<D>, I: ZoneIndex, W: Write, E: Write
 /// more opening. Returns the exit status: `DONE`, `REFUSED`, or `FAILED` if the device can't be had, a writer
 /// failed or memory was refused.
 pub fn history<D: Sectors + Drop, F: Devices<D>, I: ZoneIndex, W: Write, E: Write>(
-    alloc: Global,
-    heap: Heap,
-    devices: &mut F,
+    run: &mut Run<F, W, E>,
     config: &File<'_>,
     origin: &str,
     with_records: bool,
-    explain: bool,
-    out: &mut W,
-    err: &mut E,
 ) -> u8
-    ensures { Calls (F.calls devices.old) (F.calls devices.new)
-        (λ calls. HistoryEnds D.Sectors calls config.now origin.now with_records explain
-        (W.contents out.old) (W.contents out.new) (E.contents err.old) (E.contents err.new) result) }
+    ensures { RunEnds F.calls W.contents E.contents run.old run.new result
+        (HistoryEnds D.Sectors config.now origin.now with_records) }
 {
-    list_named::<D, F, I, W, E>(
-        alloc,
-        heap,
-        devices,
-        config,
-        origin,
-        with_records,
-        explain,
-        out,
-        err,
-    )
-    .unwrap_or(FAILED)
+    list_named::<D, F, I, W, E>(run, config, origin, with_records).unwrap_or(FAILED)
 }

@@ -6,10 +6,12 @@ ghost use Rattle.std.specs.Result.{result_unwrap_or};
 ghost use Rattle.std.specs.Io.KnownBytes.{Appends};
 ghost use Rattle.dns_configuration.specs.Faults.{is_memory};
 ghost use Rattle.dns_configuration.specs.Calls.{Calls, HasCalled};
+ghost use Rattle.dns_commands.specs.Frame.{RunEnds};
 ghost use Rattle.dns_commands.specs.Init.{AreChosen, AreMade, InitEnds, IsDeviceMade, IsFirstFound, IsFound};
 ghost use Rattle.dns_commands.specs.Init.{IsMakingUndone, IsNotChosen, IsNotMade, MakingEnds, absent};
 ghost use Rattle.dns_commands.specs.Init.{formatted, removal, sectors_of};
 
+use crate::frame::Run;
 use dns_configuration::{
     DONE, FAILED, Fault, File, ZoneSettings, apex, load_all, read_configuration, tell, zone_of,
 };
@@ -18,7 +20,6 @@ use dns_memory::Heap;
 use dns_sectors::Sectors;
 use dns_store::format;
 use dns_zone::{Zone, ZoneIndex};
-use std::alloc::Global;
 use std::io::{self, Write};
 use std::slice;
 
@@ -172,26 +173,26 @@ fn print_all<I: ZoneIndex, W: Write>(out: &mut W, zones: &[Zone<I>]) -> io::Resu
 /// Makes the devices of zones, in their order, and prints each. If one is refused, or what was made can't be
 /// printed, none that was made stays.
 fn make_all<D: Sectors + Drop, F: NewDevices<D>, I: ZoneIndex, W: Write, E: Write>(
-    heap: Heap,
-    devices: &mut F,
+    run: &mut Run<F, W, E>,
     settings: &[ZoneSettings],
     zones: &[Zone<I>],
-    explain: bool,
-    out: &mut W,
-    err: &mut E,
 ) -> io::Result<u8>
     requires { length settings.now ≡ length zones.now }
-    ensures { Calls (F.calls devices.old) (F.calls devices.new)
-        (λ calls. MakingEnds D.Sectors calls settings.now zones.now explain (W.contents out.old)
-        (W.contents out.new) (E.contents err.old) (E.contents err.new) (result_unwrap_or result FAILED)) }
+    ensures { RunEnds F.calls W.contents E.contents run.old run.new (result_unwrap_or result FAILED)
+        (MakingEnds D.Sectors settings.now zones.now) }
 {
-    if let Err((path, fault)) = make_devices::<D, F, I>(heap, devices, settings, zones) {
-        return tell_device(err, path, fault, explain);
+    if let Err((path, fault)) = make_devices::<D, F, I>(
+        run.heap,
+        &mut run.devices,
+        settings,
+        zones,
+    ) {
+        return tell_device(&mut run.err, path, fault, run.explain);
     }
-    match print_all(out, zones) {
+    match print_all(&mut run.out, zones) {
         Ok(()) => Ok(DONE),
         Err(error) => {
-            remove_all::<D, F>(devices, settings);
+            remove_all::<D, F>(&mut run.devices, settings);
             Err(error)
         }
     }
@@ -199,37 +200,30 @@ fn make_all<D: Sectors + Drop, F: NewDevices<D>, I: ZoneIndex, W: Write, E: Writ
 
 /// Makes the devices that are asked for, and gives the exit status.
 fn init_all<D: Sectors + Drop, F: NewDevices<D>, I: ZoneIndex, W: Write, E: Write>(
-    alloc: Global,
-    heap: Heap,
-    devices: &mut F,
+    run: &mut Run<F, W, E>,
     config: &File<'_>,
     origin: Option<&str>,
     files: &[File<'_>],
-    explain: bool,
-    out: &mut W,
-    err: &mut E,
 ) -> io::Result<u8>
-    ensures { Calls (F.calls devices.old) (F.calls devices.new)
-        (λ calls. InitEnds D.Sectors calls config.now (option_copied origin.entry) files.now explain
-        (W.contents out.old) (W.contents out.new) (E.contents err.old) (E.contents err.new)
-        (result_unwrap_or result FAILED)) }
+    ensures { RunEnds F.calls W.contents E.contents run.old run.new (result_unwrap_or result FAILED)
+        (InitEnds D.Sectors config.now (option_copied origin.entry) files.now) }
 {
-    let configured = match read_configuration(alloc, heap, config) {
+    let configured = match read_configuration(run.alloc, run.heap, config) {
         Ok(configuration) => configuration.zones,
-        Err(fault) => return tell(err, config.path, fault),
+        Err(fault) => return tell(&mut run.err, config.path, fault),
     };
-    let settings = match chosen(heap, &configured, origin) {
+    let settings = match chosen(run.heap, &configured, origin) {
         Ok(settings) => settings,
-        Err((word, fault)) => return tell(err, word, fault),
+        Err((word, fault)) => return tell(&mut run.err, word, fault),
     };
-    let zones: Vec<Zone<I>, Heap> = match load_all(heap, files, settings) {
+    let zones: Vec<Zone<I>, Heap> = match load_all(run.heap, files, settings) {
         Ok(zones) => zones,
-        Err((path, fault)) => return tell(err, path, fault),
+        Err((path, fault)) => return tell(&mut run.err, path, fault),
     };
-    if let Some((path, fault)) = first_found(devices, settings) {
-        return tell_device(err, path, fault, explain);
+    if let Some((path, fault)) = first_found(&mut run.devices, settings) {
+        return tell_device(&mut run.err, path, fault, run.explain);
     }
-    make_all(heap, devices, settings, &zones, explain, out, err)
+    make_all(run, settings, &zones)
 }
 
 /// Makes the device of each zone of a configuration from its master file, or that of the zone which `origin`
@@ -237,26 +231,17 @@ fn init_all<D: Sectors + Drop, F: NewDevices<D>, I: ZoneIndex, W: Write, E: Writ
 /// `DONE`, no device that this run made stays; nothing that was there before is opened, written or removed.
 ///
 /// Faults are reported in one line, the first in this order: the configuration, the origin
-/// (`ORIGIN: BadOrigin`), the master files in the order of the zones, the devices (`DEVICE: Exists` before any
-/// is made); of a device, if it is wanted, a second line says what can be done. Returns the exit status:
+/// (`ORIGIN: BadOrigin`), the master files in the order of the zones, the devices (`DEVICE: Exists` before
+/// any is made); of a device, if it is wanted, a second line says what can be done. Returns the exit status:
 /// `DONE`, `REFUSED`, or `FAILED` if a device can't be had, a writer failed or memory was refused.
 pub fn init<D: Sectors + Drop, F: NewDevices<D>, I: ZoneIndex, W: Write, E: Write>(
-    alloc: Global,
-    heap: Heap,
-    devices: &mut F,
+    run: &mut Run<F, W, E>,
     config: &File<'_>,
     origin: Option<&str>,
     files: &[File<'_>],
-    explain: bool,
-    out: &mut W,
-    err: &mut E,
 ) -> u8
-    ensures { Calls (F.calls devices.old) (F.calls devices.new)
-        (λ calls. InitEnds D.Sectors calls config.now (option_copied origin.entry) files.now explain
-        (W.contents out.old) (W.contents out.new) (E.contents err.old) (E.contents err.new) result) }
+    ensures { RunEnds F.calls W.contents E.contents run.old run.new result
+        (InitEnds D.Sectors config.now (option_copied origin.entry) files.now) }
 {
-    init_all::<D, F, I, W, E>(
-        alloc, heap, devices, config, origin, files, explain, out, err,
-    )
-    .unwrap_or(FAILED)
+    init_all::<D, F, I, W, E>(run, config, origin, files).unwrap_or(FAILED)
 }

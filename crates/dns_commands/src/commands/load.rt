@@ -2,19 +2,16 @@
 ghost use Rattle.std.specs.Prelude.{◌≡◌, OnOk};
 ghost use Rattle.std.specs.Result.{result_unwrap_or};
 ghost use Rattle.std.specs.Io.KnownBytes.{Appends};
-ghost use Rattle.dns_configuration.specs.Calls.{Calls};
+ghost use Rattle.dns_commands.specs.Frame.{RunEnds};
 ghost use Rattle.dns_commands.specs.LoadRun.{LoadEnds, LoadingEnds, difference_line, loaded_line};
 ghost use Rattle.dns_commands.specs.LoadRun.{loaded_text, path_blamed};
 
+use crate::frame::{Run, zone_named};
 use crate::next_version::{Loaded, load_zone};
-use dns_configuration::{
-    DONE, FAILED, Fault, File, ZoneSettings, apex, load_one, read_configuration, tell, zone_of,
-};
+use dns_configuration::{DONE, FAILED, File, ZoneSettings, load_one, tell};
 use dns_devices::{DeviceFault, Devices, tell_device};
-use dns_memory::Heap;
 use dns_sectors::Sectors;
 use dns_zone::{Zone, ZoneIndex};
-use std::alloc::Global;
 use std::io::{self, Write};
 
 /// Prints which version of a zone was loaded.
@@ -76,58 +73,39 @@ pub(crate) fn path_blamed(own: &ZoneSettings, fault: DeviceFault) -> &str
 
 /// Loads the master file of a zone, and gives the exit status.
 fn load_own<D: Sectors + Drop, F: Devices<D>, I: ZoneIndex, W: Write, E: Write>(
-    heap: Heap,
-    devices: &mut F,
+    run: &mut Run<F, W, E>,
     own: &ZoneSettings,
     files: &[File<'_>],
-    explain: bool,
-    out: &mut W,
-    err: &mut E,
 ) -> io::Result<u8>
-    ensures { Calls (F.calls devices.old) (F.calls devices.new)
-        (λ calls. LoadingEnds D.Sectors calls own.now files.now explain (W.contents out.old)
-        (W.contents out.new) (E.contents err.old) (E.contents err.new) (result_unwrap_or result FAILED)) }
+    ensures { RunEnds F.calls W.contents E.contents run.old run.new (result_unwrap_or result FAILED)
+        (LoadingEnds D.Sectors files.now own.now) }
 {
-    let zone: Zone<I> = match load_one(heap, files, own) {
+    let zone: Zone<I> = match load_one(run.heap, files, own) {
         Ok(zone) => zone,
-        Err(fault) => return tell(err, &own.file, fault),
+        Err(fault) => return tell(&mut run.err, &own.file, fault),
     };
-    match load_zone(heap, devices, own, &zone) {
+    match load_zone(run.heap, &mut run.devices, own, &zone) {
         Ok(answer) => {
-            print_loaded(out, own, answer)?;
+            print_loaded(&mut run.out, own, answer)?;
             Ok(DONE)
         }
-        Err(fault) => tell_device(err, path_blamed(own, fault), fault, explain),
+        Err(fault) => tell_device(&mut run.err, path_blamed(own, fault), fault, run.explain),
     }
 }
 
 /// Loads the master file of the zone of that name, and gives the exit status.
 fn load_named<D: Sectors + Drop, F: Devices<D>, I: ZoneIndex, W: Write, E: Write>(
-    alloc: Global,
-    heap: Heap,
-    devices: &mut F,
+    run: &mut Run<F, W, E>,
     config: &File<'_>,
     files: &[File<'_>],
     origin: &str,
-    explain: bool,
-    out: &mut W,
-    err: &mut E,
 ) -> io::Result<u8>
-    ensures { Calls (F.calls devices.old) (F.calls devices.new)
-        (λ calls. LoadEnds D.Sectors calls config.now files.now origin.now explain (W.contents out.old)
-        (W.contents out.new) (E.contents err.old) (E.contents err.new) (result_unwrap_or result FAILED)) }
+    ensures { RunEnds F.calls W.contents E.contents run.old run.new (result_unwrap_or result FAILED)
+        (LoadEnds D.Sectors config.now files.now origin.now) }
 {
-    let zones = match read_configuration(alloc, heap, config) {
-        Ok(configuration) => configuration.zones,
-        Err(fault) => return tell(err, config.path, fault),
-    };
-    let name = match apex(heap, origin) {
-        Ok(name) => name,
-        Err(fault) => return tell(err, origin, fault),
-    };
-    match zone_of(&zones, &name) {
-        Some(own) => load_own::<D, F, I, W, E>(heap, devices, own, files, explain, out, err),
-        None => tell(err, origin, Fault::BadOrigin),
+    match zone_named(run.alloc, run.heap, config, origin) {
+        Ok(own) => load_own::<D, F, I, W, E>(run, &own, files),
+        Err((word, fault)) => tell(&mut run.err, word, fault),
     }
 }
 
@@ -143,22 +121,13 @@ fn load_named<D: Sectors + Drop, F: Devices<D>, I: ZoneIndex, W: Write, E: Write
 /// if it is wanted, a second line says what can be done. Gives the exit status: `DONE`, `REFUSED`, or
 /// `FAILED` where the device can't be had, a writer failed or memory was refused.
 pub fn load<D: Sectors + Drop, F: Devices<D>, I: ZoneIndex, W: Write, E: Write>(
-    alloc: Global,
-    heap: Heap,
-    devices: &mut F,
+    run: &mut Run<F, W, E>,
     config: &File<'_>,
     files: &[File<'_>],
     origin: &str,
-    explain: bool,
-    out: &mut W,
-    err: &mut E,
 ) -> u8
-    ensures { Calls (F.calls devices.old) (F.calls devices.new)
-        (λ calls. LoadEnds D.Sectors calls config.now files.now origin.now explain (W.contents out.old)
-        (W.contents out.new) (E.contents err.old) (E.contents err.new) result) }
+    ensures { RunEnds F.calls W.contents E.contents run.old run.new result
+        (LoadEnds D.Sectors config.now files.now origin.now) }
 {
-    load_named::<D, F, I, W, E>(
-        alloc, heap, devices, config, files, origin, explain, out, err,
-    )
-    .unwrap_or(FAILED)
+    load_named::<D, F, I, W, E>(run, config, files, origin).unwrap_or(FAILED)
 }

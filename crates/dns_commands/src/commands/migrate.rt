@@ -3,16 +3,17 @@ ghost use Rattle.std.specs.Prelude.{MatchResult, OnOk};
 ghost use Rattle.std.specs.Result.{result_unwrap_or};
 ghost use Rattle.std.specs.Io.KnownBytes.{Appends};
 ghost use Rattle.dns_configuration.specs.Calls.{Calls};
+ghost use Rattle.dns_commands.specs.Frame.{RunEnds};
 ghost use Rattle.dns_commands.specs.Migrate.{IsMigratedAs, IsNotMigrated, MigrateEnds, MigratingEnds};
 ghost use Rattle.dns_commands.specs.Migrate.{migrated};
 
+use crate::frame::Run;
 use dns_configuration::{DONE, FAILED, File, ZoneSettings, read_configuration, tell};
 use dns_devices::{DeviceFault, Devices, tell_device};
 use dns_memory::Heap;
 use dns_sectors::Sectors;
 use dns_store::{Migration, migrate as migrate_store};
 use dns_zone::ZoneIndex;
-use std::alloc::Global;
 use std::io::{self, Write};
 
 /// Migrates the device of a configured zone.
@@ -50,21 +51,16 @@ fn print_migrated<W: Write>(out: &mut W, own: &ZoneSettings, answer: Migration) 
 
 /// Migrates the devices of zones, in their order, and prints each. Stops where one is refused.
 fn migrate_zones<D: Sectors + Drop, F: Devices<D>, I: ZoneIndex, W: Write, E: Write>(
-    heap: Heap,
-    devices: &mut F,
+    run: &mut Run<F, W, E>,
     settings: &[ZoneSettings],
-    explain: bool,
-    out: &mut W,
-    err: &mut E,
 ) -> io::Result<u8>
-    ensures { Calls (F.calls devices.old) (F.calls devices.new)
-        (λ calls. MigratingEnds D.Sectors calls settings.now explain (W.contents out.old) (W.contents out.new)
-        (E.contents err.old) (E.contents err.new) (result_unwrap_or result FAILED)) }
+    ensures { RunEnds F.calls W.contents E.contents run.old run.new (result_unwrap_or result FAILED)
+        (MigratingEnds D.Sectors settings.now) }
 {
     for own in settings {
-        match migrate_one::<D, F, I>(heap, devices, own) {
-            Ok(answer) => print_migrated(out, own, answer)?,
-            Err(fault) => return tell_device(err, &own.device, fault, explain),
+        match migrate_one::<D, F, I>(run.heap, &mut run.devices, own) {
+            Ok(answer) => print_migrated(&mut run.out, own, answer)?,
+            Err(fault) => return tell_device(&mut run.err, &own.device, fault, run.explain),
         }
     }
     Ok(DONE)
@@ -72,23 +68,17 @@ fn migrate_zones<D: Sectors + Drop, F: Devices<D>, I: ZoneIndex, W: Write, E: Wr
 
 /// Migrates all devices, and gives the exit status.
 fn migrate_all<D: Sectors + Drop, F: Devices<D>, I: ZoneIndex, W: Write, E: Write>(
-    alloc: Global,
-    heap: Heap,
-    devices: &mut F,
+    run: &mut Run<F, W, E>,
     config: &File<'_>,
-    explain: bool,
-    out: &mut W,
-    err: &mut E,
 ) -> io::Result<u8>
-    ensures { Calls (F.calls devices.old) (F.calls devices.new)
-        (λ calls. MigrateEnds D.Sectors calls config.now explain (W.contents out.old) (W.contents out.new)
-        (E.contents err.old) (E.contents err.new) (result_unwrap_or result FAILED)) }
+    ensures { RunEnds F.calls W.contents E.contents run.old run.new (result_unwrap_or result FAILED)
+        (MigrateEnds D.Sectors config.now) }
 {
-    let settings = match read_configuration(alloc, heap, config) {
+    let settings = match read_configuration(run.alloc, run.heap, config) {
         Ok(configuration) => configuration.zones,
-        Err(fault) => return tell(err, config.path, fault),
+        Err(fault) => return tell(&mut run.err, config.path, fault),
     };
-    migrate_zones::<D, F, I, W, E>(heap, devices, &settings, explain, out, err)
+    migrate_zones::<D, F, I, W, E>(run, &settings)
 }
 
 /// Makes the device of each zone of a configuration new, in sector format 2, if it is of format 1, and prints
@@ -98,17 +88,11 @@ fn migrate_all<D: Sectors + Drop, F: Devices<D>, I: ZoneIndex, W: Write, E: Writ
 /// before a refused one stay migrated. Gives the exit status: `DONE`, `REFUSED`, or `FAILED` where a device
 /// can't be had, a writer failed or memory was refused. A run that was stopped is made again.
 pub fn migrate<D: Sectors + Drop, F: Devices<D>, I: ZoneIndex, W: Write, E: Write>(
-    alloc: Global,
-    heap: Heap,
-    devices: &mut F,
+    run: &mut Run<F, W, E>,
     config: &File<'_>,
-    explain: bool,
-    out: &mut W,
-    err: &mut E,
 ) -> u8
-    ensures { Calls (F.calls devices.old) (F.calls devices.new)
-        (λ calls. MigrateEnds D.Sectors calls config.now explain (W.contents out.old) (W.contents out.new)
-        (E.contents err.old) (E.contents err.new) result) }
+    ensures { RunEnds F.calls W.contents E.contents run.old run.new result
+        (MigrateEnds D.Sectors config.now) }
 {
-    migrate_all::<D, F, I, W, E>(alloc, heap, devices, config, explain, out, err).unwrap_or(FAILED)
+    migrate_all::<D, F, I, W, E>(run, config).unwrap_or(FAILED)
 }

@@ -1,44 +1,34 @@
 //! A script over the zones of a configuration.
-ghost use Rattle.std.specs.Prelude.{◌≡◌, ◌⊎◌, length, IfOk};
-ghost use Rattle.dns_commands.specs.Replay.{EndsFromFresh, IsUnmadeTold, ReplayEnds, device_paths};
+ghost use Rattle.std.specs.Prelude.{◌≡◌, length, IfOk};
+ghost use Rattle.dns_commands.specs.Replay.{EndsFromFresh, ReplayEnds};
 
 use crate::commands::check::Index;
+use crate::commands::check_configuration::first_too_large;
 use dns_configuration::{
     DONE, FAILED, Fault, File, REFUSED, ZoneSettings, load_all, read_configuration, settings_of,
     tell,
 };
 use dns_devices::{DeviceFault, tell_device};
 use dns_memory::Heap;
-use dns_replay::{Ending, NotMade, ScriptDevice, replay_zones};
+use dns_primary::ZoneSpec;
+use dns_replay::{Ending, ScriptDevice, replay_zones};
 use dns_sectors::{MemorySectors, Sectors};
 use dns_zone::Zone;
 use std::alloc::Global;
 use std::io::{self, Write};
 
-/// Tells that no store can be made for the zone at a position, and gives the exit status.
-fn tell_unmade<E: Write>(err: &mut E, own: &[ZoneSettings], unmade: NotMade) -> io::Result<u8>
-    ensures { IfOk result
-        (λ status. (status ≡ FAILED)
-        ⊎ ((status ≡ REFUSED)
-        × IsUnmadeTold (device_paths own.now) (E.contents err.old) (E.contents err.new))) }
-{
-    match own.get(unmade.place) {
-        Some(zone) => tell_device(err, &zone.device, DeviceFault::from(unmade.error), false),
-        None => Ok(FAILED),
-    }
-}
-
 /// Runs a script that a file holds over zones that were loaded, and gives the exit status.
 fn run<W: Write, E: Write>(
     heap: Heap,
     zones: Vec<Zone<Index>, Heap>,
-    known: Vec<dns_primary::ZoneSpec, Heap>,
+    known: Vec<ZoneSpec, Heap>,
     own: &[ZoneSettings],
     script: &File<'_>,
     out: &mut W,
     err: &mut E,
 ) -> io::Result<u8>
-    requires { length zones.items ≡ length known.items }
+    requires known { length zones.items ≡ length known.items }
+    requires own { length own.now ≡ length zones.items }
     ensures { IfOk result
         (EndsFromFresh ⟦<MemorySectors as Sectors>⟧ ⟦<MemorySectors as ScriptDevice>⟧.left_by
         zones.entry.items known.entry.items own.now script.now (W.contents out.old) (W.contents out.new)
@@ -47,12 +37,16 @@ fn run<W: Write, E: Write>(
     let Some(lines) = script.octets else {
         return tell(err, script.path, Fault::Unreadable);
     };
+    if let Some(path) = first_too_large(own, &zones) {
+        return tell_device(err, path, DeviceFault::ZoneTooLarge, false);
+    }
     match replay_zones::<MemorySectors, Index, W>(heap, zones, known, lines, out) {
         Ok(Ending::Done) => Ok(DONE),
         Ok(Ending::Syntax(line)) => tell(err, script.path, Fault::Syntax(line)),
         Ok(Ending::Refused) => Ok(REFUSED),
         Ok(Ending::Failed) => Ok(FAILED),
-        Err(unmade) => tell_unmade(err, own, unmade),
+        // Each zone has room: a device failed, or memory was refused.
+        Err(_) => Ok(FAILED),
     }
 }
 
@@ -85,9 +79,10 @@ fn replayed<W: Write, E: Write>(
 
 /// Runs a script over the zones that a configuration names, and prints the effects of each line. Faults are
 /// reported in one line, the first in this order: the configuration, the master files in the order of the
-/// zones, the script, the device on which no store can be made, the script's lines as they run. Where a store
-/// is refused after a crash, that is printed, and the run ends. Gives the exit status: `DONE`, `REFUSED`, or
-/// `FAILED` where a writer failed, a device failed while it was made or memory was refused.
+/// zones, the script, `DEVICE: ZoneTooLarge` of the first zone that takes more sectors than its snapshots
+/// have, the script's lines as they run. If a store is refused after a crash, that is printed, and the run
+/// ends. Returns the exit status: `DONE`, `REFUSED`, or `FAILED` if a writer or a device failed or memory was
+/// refused.
 pub fn replay<W: Write, E: Write>(
     alloc: Global,
     heap: Heap,

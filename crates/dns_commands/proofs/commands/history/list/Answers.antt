@@ -5,7 +5,8 @@ use Rattle.dns_configuration.proofs.Called.{called_on, ended_as}
 use Rattle.dns_devices.specs.DeviceCalls.{Closed}
 use Rattle.dns_devices.specs.Stores.{own_shape}
 use Rattle.dns_devices.proofs.Told.{device_told}
-use Rattle.dns_commands.specs.History.{IsHistoryOf, IsListed, ListingEnds, history_of}
+use Rattle.dns_commands.specs.Frame.{run_end}
+use Rattle.dns_commands.specs.History.{IsHistoryOf, ShowsHistory, ListingEnds, history_of}
 use Rattle.dns_commands.proofs.Historied.{history_kept, listed, listing_failed, not_listed, rest_of, seen_as, written_in_vain}
 use Rattle.dns_commands.proofs.commands.history.list.Goals as goal
 
@@ -16,16 +17,16 @@ returns-in-Err g c =
     let own = c.args.own.now in
     let w = c.args.with_records in
     let fault = c.in-Err.fault in
-    let out = g.W.Write.contents c.args.out.now in
-    let err = g.E.Write.contents c.args.err.now in
+    let out = g.W.Write.contents c.args.run.now.out in
+    let err = g.E.Write.contents c.args.run.now.err in
     let err_after = g.E.Write.contents c.tell_device.new.err in
-    let ends : ℕ → Type 0 = λ status. ListingEnds g.D.Sectors calls own w c.args.explain out out err err_after status in
-    let failed = listing_failed g.D.Sectors calls own w c.args.explain out out err err_after (inr (fault, why)) in (
+    let ends : ℕ → Type 0 = λ status. ListingEnds g.D.Sectors w own (run_end calls c.args.run.now.explain out out err err_after status) in
+    let failed = listing_failed g.D.Sectors calls own w c.args.run.now.explain out out err err_after (inr (fault, why)) in (
       calls,
       c.in-Err.ensures.1,
       ended_as ends c.tell_device.result failed
-          (device_told ends c.deref-in-Err.result.now fault c.args.explain err err_after c.tell_device.result c.tell_device.ensures failed
-          (not_listed g.D.Sectors calls own w c.args.explain out err err_after c.deref-in-Err.result.now fault c.deref-in-Err.ensures why)),
+          (device_told ends c.deref-in-Err.result.now fault c.args.run.now.explain err err_after c.tell_device.result c.tell_device.ensures failed
+          (not_listed g.D.Sectors calls own w c.args.run.now.explain out err err_after c.deref-in-Err.result.now fault c.deref-in-Err.ensures why)),
     )
 
 pub returns-in_ok-printed-in-Ok : goal.returns-in_ok-printed-in-Ok
@@ -41,12 +42,12 @@ returns-in_ok-printed-in-Ok g c =
     let after = c.into_device.result in
     let path = c.deref.result.now in
     let calls = opened ++ Closed path after ∷ [] in
-    let seen : IsListed g.D.Sectors calls own h = seen_as g.D.Sectors opened own c.in-Ok.store c.in-Ok.newest after path (IsHistoryOf h) c.in-Ok.ensures.2 c.into_device.ensures c.deref.ensures
+    let seen : ShowsHistory g.D.Sectors calls own h = seen_as g.D.Sectors opened own c.in-Ok.store c.in-Ok.newest after path (IsHistoryOf h) c.in-Ok.ensures.2 c.into_device.ensures c.deref.ensures
     (λ o content opening taken.
     (let k = fresh (own_shape own) (opened_again o) in
     history_kept (own_shape own) o content c.newest.result base serial first c.in-Ok.newest kept changes opening (c.newest.ensures k taken.keeps_them) (c.changes-kept.ensures k taken.keeps_them) taken.newest_is
     c.first_journalled.ensures.inside c.first_journalled.ensures.first (rest_of first kept) c.first_serial-serial.ensures c.saturating_sub-base.ensures)) in
-    (calls, called_on _ _ _ opened (Closed path after ∷ []) c.in-Ok.ensures.1 c.close.ensures, listed g.D.Sectors calls own c.args.with_records c.args.explain _ _ _ h seen c.in_ok-printed-in-Ok.ensures)
+    (calls, called_on _ _ _ opened (Closed path after ∷ []) c.in-Ok.ensures.1 c.close.ensures, listed g.D.Sectors calls own c.args.with_records c.args.run.now.explain _ _ _ h seen c.in_ok-printed-in-Ok.ensures)
 
 pub returns-in_err-printed-in-Ok : goal.returns-in_err-printed-in-Ok
 returns-in_err-printed-in-Ok g c =
@@ -62,13 +63,13 @@ returns-in_err-printed-in-Ok g c =
     let after = c.into_device.result in
     let path = c.deref.result.now in
     let calls = opened ++ Closed path after ∷ [] in
-    let seen : IsListed g.D.Sectors calls own h = seen_as g.D.Sectors opened own c.in-Ok.store c.in-Ok.newest after path (IsHistoryOf h) c.in-Ok.ensures.2 c.into_device.ensures c.deref.ensures
+    let seen : ShowsHistory g.D.Sectors calls own h = seen_as g.D.Sectors opened own c.in-Ok.store c.in-Ok.newest after path (IsHistoryOf h) c.in-Ok.ensures.2 c.into_device.ensures c.deref.ensures
     (λ o content opening taken.
     (let k = fresh (own_shape own) (opened_again o) in
     history_kept (own_shape own) o content c.newest.result base serial first c.in-Ok.newest kept changes opening (c.newest.ensures k taken.keeps_them) (c.changes-kept.ensures k taken.keeps_them) taken.newest_is
     c.first_journalled.ensures.inside c.first_journalled.ensures.first (rest_of first kept) c.first_serial-serial.ensures c.saturating_sub-base.ensures)) in
-    let out = g.W.Write.contents c.args.out.now in
+    let out = g.W.Write.contents c.args.run.now.out in
     let out_after = g.W.Write.contents c.print_history-printed.new.out in
-    let err = g.E.Write.contents c.args.err.now in
-    let ends : ℕ → Type 0 = λ status. ListingEnds g.D.Sectors calls own w c.args.explain out out_after err err status in
-    (calls, called_on _ _ _ opened (Closed path after ∷ []) c.in-Ok.ensures.1 c.close.ensures, written_in_vain ends c.from_residual.result c.from_residual.ensures.0 (listing_failed g.D.Sectors calls own w c.args.explain out out_after err err (inl (h, seen))))
+    let err = g.E.Write.contents c.args.run.now.err in
+    let ends : ℕ → Type 0 = λ status. ListingEnds g.D.Sectors w own (run_end calls c.args.run.now.explain out out_after err err status) in
+    (calls, called_on _ _ _ opened (Closed path after ∷ []) c.in-Ok.ensures.1 c.close.ensures, written_in_vain ends c.from_residual.result c.from_residual.ensures.0 (listing_failed g.D.Sectors calls own w c.args.run.now.explain out out_after err err (inl (h, seen))))

@@ -1,19 +1,21 @@
-use Rattle.std.proofs.Common.{◌≡◌, true, ap}
+use Rattle.std.proofs.Common.{◌≡◌, true, length, ap, ◌∙◌}
 use Rattle.std.specs.Prelude.{◌⊎◌}
 use Rattle.dns_configuration.specs.Faults.{is_memory}
 use Rattle.dns_configuration.specs.Files.{IsFirstFault, IsLoadedFrom}
 use Rattle.dns_configuration.specs.Known.{IsSettingOf}
-use Rattle.dns_commands.specs.Replay.{device_paths}
+use Rattle.dns_commands.proofs.Made.{zip_length}
 use Rattle.dns_commands.proofs.Replayed.{as_many, file_told, script_ran}
 use Rattle.dns_commands.proofs.commands.replay.replayed.Goals as goal
 
-pub run-requires : goal.run-requires
-run-requires g c = as_many (IsLoadedFrom c.args.files.now) IsSettingOf c.in-Ok.configuration.zones.items c.in-Ok-loaded.zones.items c.in_ok-known.known.items (rw c.deref-2.ensures.value at c.in-Ok-loaded.ensures) (rw c.deref.ensures.value at c.in_ok-known.ensures)
+pub run-requires-clause-known : goal.run-requires-clause-known
+run-requires-clause-known g c = as_many (IsLoadedFrom c.args.files.now) IsSettingOf c.in-Ok.configuration.zones.items c.in-Ok-loaded.zones.items c.in_ok-known.known.items (rw c.deref-2.ensures.value at c.in-Ok-loaded.ensures) (rw c.deref.ensures.value at c.in_ok-known.ensures)
+
+pub run-requires-clause-own : goal.run-requires-clause-own
+run-requires-clause-own g c = ap length c.deref-in-Ok-loaded.ensures.value ∙ zip_length (IsLoadedFrom c.args.files.now) c.in-Ok.configuration.zones.items c.in-Ok-loaded.zones.items (rw c.deref-2.ensures.value at c.in-Ok-loaded.ensures)
 
 pub returns-in-Ok-loaded : goal.returns-in-Ok-loaded
 returns-in-Ok-loaded g c =
-    let devices = ap device_paths c.deref-in-Ok-loaded.ensures.value in
-    script_ran _ _ c.args.config.now c.args.files.now c.args.script.now c.in-Ok.configuration c.in-Ok-loaded.zones.items c.in_ok-known.known.items (device_paths c.deref-in-Ok-loaded.result.now) _ _ _ _ c.run.result c.in-Ok.ensures.held (rw c.deref-2.ensures.value at c.in-Ok-loaded.ensures) (rw c.deref.ensures.value at c.in_ok-known.ensures) devices c.run.ensures
+    script_ran _ _ c.args.config.now c.args.files.now c.args.script.now c.in-Ok.configuration c.in-Ok-loaded.zones.items c.in_ok-known.known.items c.deref-in-Ok-loaded.result.now _ _ _ _ c.run.result c.in-Ok.ensures.held (rw c.deref-2.ensures.value at c.in-Ok-loaded.ensures) (rw c.deref.ensures.value at c.in_ok-known.ensures) c.deref-in-Ok-loaded.ensures.value c.run.ensures
 
 pub returns : goal.returns
 returns g c =
