@@ -18,4 +18,4 @@ pub use keeps::{Keep, ZoneKeep};
 pub use lines::split_line;
 pub use replay_state::World;
 pub use run::{Ending, run_script};
-pub use setup::replay_zones;
+pub use setup::{NotMade, replay_zones};

@@ -27,7 +27,7 @@ pub enum Ending {
     Syntax(u64),
     /// After a crash a store was refused, as was printed.
     Refused,
-    /// A writer failed, memory was refused, or a store could not be made.
+    /// A writer failed, or memory was refused.
     Failed,
 }
 

@@ -1,6 +1,6 @@
 //! A script over zones that were loaded: a device is made for each, with its store, and the primary is opened
 //! over them.
-ghost use Rattle.std.specs.Prelude.{◌≡◌, ◌≢◌, ◌∷◌, ◌++◌, [], length, map, IfOk, OnOk};
+ghost use Rattle.std.specs.Prelude.{◌≡◌, ◌≢◌, ◌∷◌, ◌++◌, [], length, map, IfErr, IfOk, OnOk};
 ghost use Rattle.dns_versions.specs.Each.{Each2, Each3};
 ghost use Rattle.dns_replay.specs.Lines.{lines};
 ghost use Rattle.dns_replay.specs.Made.{IsMadeOf};
@@ -18,6 +18,13 @@ use dns_zone::{Zone, ZoneIndex};
 use std::alloc::AllocError;
 use std::io::Write;
 use std::rc::Rc;
+
+/// Why no store was made: the position of the zone, and what was wrong.
+#[derive(Clone, Copy, Debug, PartialEq, Eq)]
+pub struct NotMade {
+    pub place: usize,
+    pub error: FormatError,
+}
 
 /// The names of zones.
 fn names_of<I: ZoneIndex>(alloc: Heap, zones: &[Zone<I>]) -> Result<Vec<Name, Heap>, AllocError>
@@ -73,13 +80,16 @@ fn make_all<D: ScriptDevice, I: ZoneIndex>(
     zones: &[Zone<I>],
     settings: &[ZoneSpec],
     plan: &Rc<Plan, Heap>,
-) -> Result<Vec<D, Heap>, FormatError>
+) -> Result<Vec<D, Heap>, NotMade>
     requires { length zones.now ≡ length settings.now }
     ensures { IfOk result (λ devices. Each3 (IsMadeOf D.Sectors) zones.now settings.now devices.items) }
 {
     let mut devices = Vec::new(alloc);
     for place in 0..zones.len() {
-        make_into(alloc, &mut devices, &zones[place], &settings[place], plan)?;
+        match make_into(alloc, &mut devices, &zones[place], &settings[place], plan) {
+            Ok(()) => {}
+            Err(error) => return Err(NotMade { place, error }),
+        }
     }
     Ok(devices)
 }
@@ -106,46 +116,40 @@ fn replay_over<D: ScriptDevice, I: ZoneIndex, W: Write>(
     }
 }
 
-/// The same with the devices to be made, or why the store of a zone can't be.
-fn replay_made<D: ScriptDevice, I: ZoneIndex, W: Write>(
+/// Makes a device for each zone, with its store, opens the primary over them, and runs a script: see
+/// `run_script`. The zones and their settings are in one order. Refused where no store can be made of a zone.
+pub fn replay_zones<D: ScriptDevice, I: ZoneIndex, W: Write>(
     alloc: Heap,
-    zones: &[Zone<I>],
-    settings: &[ZoneSpec],
+    zones: Vec<Zone<I>, Heap>,
+    settings: Vec<ZoneSpec, Heap>,
     script: &[u8],
     out: &mut W,
-) -> Result<Ending, FormatError>
-    requires { length zones.now ≡ length settings.now }
-    ensures { IfOk result (λ ending. ending ≢ Ending.Failed
-        → RunsFrom D.Sectors D.left_by zones.now settings.now (lines script.now) ending
+) -> Result<Ending, NotMade>
+    requires { length zones.items ≡ length settings.items }
+    ensures ran { IfOk result (λ ending. ending ≢ Ending.Failed
+        → RunsFrom D.Sectors D.left_by zones.entry.items settings.entry.items (lines script.now) ending
         (W.contents out.old) (W.contents out.new)) }
+    ensures refused { IfErr result (λ _. W.contents out.new ≡ W.contents out.old) }
 {
-    let plan = Rc::new(alloc, Plan::new()).map_err(AllocError::from)?;
-    let names = names_of(alloc, zones)?;
-    let again = settings_again(alloc, settings)?;
-    let devices: Vec<D, Heap> = make_all(alloc, zones, settings, &plan)?;
+    let no_memory = NotMade {
+        place: 0,
+        error: FormatError::OutOfMemory,
+    };
+    let Ok(plan) = Rc::new(alloc, Plan::new()) else {
+        return Err(no_memory);
+    };
+    let Ok(names) = names_of(alloc, &zones) else {
+        return Err(no_memory);
+    };
+    let Ok(again) = settings_again(alloc, &settings) else {
+        return Err(no_memory);
+    };
+    let devices: Vec<D, Heap> = make_all(alloc, &zones, &settings, &plan)?;
     let world = World {
         heap: alloc,
         origins: &names,
-        settings,
+        settings: &settings,
         plan: &plan,
     };
-    Ok(replay_over(world, zones, again, devices, script, out))
-}
-
-/// Makes a device for each zone, with its store, opens the primary over them, and runs a script: see
-/// `run_script`. The zones and their settings are in one order. `Failed` also if the store of a zone can't be
-/// made, as that of one which takes more sectors than its snapshots have.
-pub fn replay_zones<D: ScriptDevice, I: ZoneIndex, W: Write>(
-    alloc: Heap,
-    zones: &[Zone<I>],
-    settings: &[ZoneSpec],
-    script: &[u8],
-    out: &mut W,
-) -> Ending
-    requires { length zones.now ≡ length settings.now }
-    ensures { result ≢ Ending.Failed
-        → RunsFrom D.Sectors D.left_by zones.now settings.now (lines script.now) result
-        (W.contents out.old) (W.contents out.new) }
-{
-    replay_made::<D, I, W>(alloc, zones, settings, script, out).unwrap_or(Ending::Failed)
+    Ok(replay_over(world, &zones, again, devices, script, out))
 }
