@@ -53,7 +53,7 @@ struct Found {
     service: bool,
 }
 
-fn found(heap: Heap, set: &SharedTree) -> Option<Found> {
+fn look(heap: Heap, set: &SharedTree) -> Option<Found> {
     let service = name(heap, "_tcp.host1.example.")?;
     Some(Found {
         records: walked(set),
@@ -75,7 +75,7 @@ fn removed(heap: Heap) -> Option<[Found; 3]> {
         }
     }
     let (left, _replies) = run_index(heap, fork.fork().ok()?, &removals).ok()?;
-    Some([found(heap, &fork)?, found(heap, &set)?, found(heap, &left)?])
+    Some([look(heap, &fork)?, look(heap, &set)?, look(heap, &left)?])
 }
 
 #[test]
