@@ -76,6 +76,22 @@ impl DiskFile {
             Err(_) => Err(FileError::Failed),
         }
     }
+
+    /// Opens the file at this path to be read alone, so that a medium that can't be written will do, and
+    /// locks it beside others that only read. Refused if another process has it open to write, and if the
+    /// system refuses. Each write to it fails.
+    pub fn open_to_read<R: Files<File = fs::File>>(
+        files: &R,
+        path: &str,
+    ) -> Result<DiskFile, FileError> {
+        match OpenOptions::new().read(true).open(files, path) {
+            Ok(file) => match file.try_lock_shared() {
+                Ok(()) => Ok(DiskFile { file }),
+                Err(_) => Err(FileError::Failed),
+            },
+            Err(_) => Err(FileError::Failed),
+        }
+    }
 }
 
 impl File for DiskFile {
@@ -169,6 +185,21 @@ impl FileSectors<DiskFile> {
         ensures failures { IfOk result (λ device. failures_of device ≡ 0) }
     {
         match DiskFile::open(files, path) {
+            Ok(file) => FileSectors::over(file),
+            Err(_) => Err(OpenDeviceError::Device),
+        }
+    }
+
+    /// That device, to be read alone: each write to it fails. `Device` if the file can't be had, if another
+    /// process has it open to write, and if it doesn't tell its length; `Geometry` if that is no multiple of
+    /// 512.
+    pub fn open_to_read<R: Files<File = fs::File>>(
+        files: &R,
+        path: &str,
+    ) -> Result<FileSectors<DiskFile>, OpenDeviceError>
+        ensures failures { IfOk result (λ device. failures_of device ≡ 0) }
+    {
+        match DiskFile::open_to_read(files, path) {
             Ok(file) => FileSectors::over(file),
             Err(_) => Err(OpenDeviceError::Device),
         }

@@ -26,6 +26,6 @@ pub use kept_store::KeptStore;
 pub use laws::{opens_law, store_law};
 pub use migrating::{MigrateError, Migration, migrate};
 pub use octets::{octets_after, snapshot_len};
-pub use recovery::{MOST_SECTORS, open};
+pub use recovery::{MOST_SECTORS, Recovered, open, read_settled};
 pub use root::OpenError;
 pub use zone_store::ZoneStore;

@@ -1,5 +1,5 @@
 //! What an update does to the records of a zone. An item says something of what its owner owns, so that the
-//! items of one name are done to that, which is taken out of the zone once for all of them.
+//! items of one name are done to a copy of that, which is put in its place once for all of them.
 ghost use Rattle.std.specs.Prelude.{◌≡◌, ◌==◌, true, false, None, OnOk, IfOk};
 ghost use Rattle.std.specs.List.{AllByRecursion, list_all};
 ghost use Rattle.dns_names.specs.Name.{names_eq};
@@ -222,24 +222,15 @@ fn take_owned(
     take_held::<Halves<Halves<Vec<Record, Heap>>>>(alloc, owned, apex, name, items)
 }
 
-/// Of a name that owns fewer records, copies are changed, and not those that are stored in the zone.
-const MANY: usize = 8;
-
-/// What a name owns, to be changed and put back. Many records are taken out, so that none is copied but what
-/// another set shares.
-fn hold<I: ZoneIndex>(
+/// A copy of the records that a name owns.
+fn copy_at<I: ZoneIndex>(
     alloc: Heap,
-    set: &mut I,
+    set: &I,
     name: &NameRef<'_>,
 ) -> Result<Vec<Record, Heap>, AllocError>
-    ensures held { IfOk result (λ held. held.items ≡ records_at (I.records set.old) name.now) }
-    ensures others { OnOk result (others (I.records set.new) name.now ≡ others (I.records set.old) name.now) }
+    ensures { IfOk result (λ copy. copy.items ≡ records_at (I.records set.now) name.now) }
 {
-    let owned = set.records_at(name);
-    if owned.len() < MANY {
-        return owned.to_vec(alloc);
-    }
-    set.take_at(name)
+    set.records_at(name).to_vec(alloc)
 }
 
 /// Puts what a name is to own in place of what it owns, unless it owns that.
@@ -273,7 +264,7 @@ fn take_run<I: ZoneIndex>(
     requires named { list_all (λ i. names_eq i.owner name.now) items.now ≡ true }
     ensures { OnOk result (I.records set.new ≡ effects apex.now (I.records set.old) items.now) }
 {
-    let owned = hold(alloc, set, name)?;
+    let owned = copy_at(alloc, set, name)?;
     let left = take_owned(alloc, owned, apex, name, items)?;
     put_back(set, name, left)
 }

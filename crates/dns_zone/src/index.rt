@@ -1,5 +1,5 @@
 //! What a set of records is.
-ghost use Rattle.std.specs.Prelude.{◌≡◌, ◌⊎◌, List, [], true, length, drop, IfOk, OnOk, OnErr};
+ghost use Rattle.std.specs.Prelude.{◌≡◌, List, [], true, length, drop, IfOk, OnOk, OnErr};
 ghost use Rattle.std.specs.Option.{option_copied};
 ghost use Rattle.std.specs.List.{AllByRecursion};
 ghost use Rattle.dns_records.specs.Record.{Record as Stated, IsRecord};
@@ -70,15 +70,6 @@ pub trait ZoneIndex: Drop {
         ensures ok { OnOk result
             (records self.new ≡ united (others (records self.old) name.now) come.entry.items) }
         ensures err { OnErr result (records self.new ≡ records self.old) };
-
-    /// Takes all that the name owns out, to be changed in place and put back by `replace_at`: nothing is
-    /// copied, unless others share it. Where memory is refused, the name's records may be lost.
-    fn take_at(&mut self, name: &NameRef<'_>) -> Result<Vec<Record, Heap>, AllocError>
-        ensures taken { IfOk result (λ taken. taken.items ≡ records_at (records self.old) name.now) }
-        ensures left { OnOk result (records self.new ≡ others (records self.old) name.now) }
-        ensures err { OnErr result
-            ((records self.new ≡ records self.old)
-            ⊎ (records self.new ≡ others (records self.old) name.now)) };
 
     /// How many records there are.
     fn len(&self) -> usize

@@ -147,13 +147,6 @@ impl ZoneIndex for RecordList {
         replace_owned(&mut self.items, name, near, come)
     }
 
-    fn take_at(&mut self, name: &NameRef<'_>) -> Result<Vec<Record, Heap>, AllocError> {
-        let alloc = *self.items.allocator();
-        let taken = self.records_at(name).to_vec(alloc)?;
-        self.replace_at(name, Vec::new(alloc))?;
-        Ok(taken)
-    }
-
     fn len(&self) -> usize {
         self.items.len()
     }

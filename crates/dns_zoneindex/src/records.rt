@@ -3,7 +3,6 @@
 ghost use Rattle.std.specs.Prelude.{◌≡◌, IfOk};
 ghost use Rattle.dns_zoneindex.specs.Held.{held};
 
-use crate::edit::copies_of;
 use dns_memory::Heap;
 use dns_records::Record;
 use std::alloc::AllocError;
@@ -56,24 +55,6 @@ impl Records {
             Records::Empty => Ok(Records::Empty),
             Records::One(record) => Ok(Records::One(record.clone()?)),
             Records::Many(records) => Ok(Records::Many(records.clone()?)),
-        }
-    }
-
-    /// The records as a list. One that nothing else shares is not copied.
-    pub(crate) fn into_vec(self, alloc: Heap) -> Result<Vec<Record, Heap>, AllocError>
-        ensures { IfOk result (λ list. list.items ≡ held self) }
-    {
-        match self {
-            Records::Empty => Ok(Vec::new(alloc)),
-            Records::One(record) => {
-                let mut list = Vec::with_capacity(alloc, 1)?;
-                list.push(record)?;
-                Ok(list)
-            }
-            Records::Many(records) => match Rc::try_unwrap(records) {
-                Ok(list) => Ok(list),
-                Err(shared) => copies_of(alloc, shared.as_slice()),
-            },
         }
     }
 }

@@ -101,12 +101,6 @@ impl ZoneIndex for SharedTree {
         self.tree.set(self.alloc, name, come)
     }
 
-    fn take_at(&mut self, name: &NameRef<'_>) -> Result<Vec<Record, Heap>, AllocError> {
-        let taken = self.tree.share_at(name)?;
-        self.replace_at(name, Vec::new(self.alloc))?;
-        taken.into_vec(self.alloc)
-    }
-
     fn len(&self) -> usize {
         self.tree.count()
     }

@@ -1,9 +1,8 @@
 //! The tree of names from the root down, seen as its records with the labels that lead to them.
 ghost use Rattle.std.specs.Prelude.{◌≡◌, true, [], length, reverse, IfOk, OnOk, OnErr};
 ghost use Rattle.std.specs.Option.{option_copied};
-ghost use Rattle.dns_zoneindex.specs.Entries.{below, here_of, own_at};
+ghost use Rattle.dns_zoneindex.specs.Entries.{below, own_at};
 ghost use Rattle.dns_zoneindex.specs.Growth.{from_depth};
-ghost use Rattle.dns_zoneindex.specs.Held.{held};
 ghost use Rattle.dns_zone.specs.Node.{IsMatch};
 ghost use Rattle.dns_zone.specs.Records.{is_ordered};
 ghost use Rattle.dns_zoneindex.specs.Lent.{IsLent};
@@ -99,16 +98,6 @@ impl Tree {
         match &self.root {
             Root::Empty => None,
             Root::Full(node) => node.under(name),
-        }
-    }
-
-    /// The records of a name, to be shared.
-    pub(crate) fn share_at(&self, name: &NameRef<'_>) -> Result<Records, AllocError>
-        ensures { IfOk result (λ shared. held shared ≡ here_of (below (reverse name.now) self.now)) }
-    {
-        match self.at(name) {
-            Some(node) => node.share_records(),
-            None => Ok(Records::Empty),
         }
     }
 
