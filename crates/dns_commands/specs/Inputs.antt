@@ -1,6 +1,9 @@
 -- The files that a run reads.
-use Rattle.std.specs.Prelude.{◌≡◌, ◌⊎◌, ℕ, false, List, [], map, Option, Some, None, Ok, Err, find, bytes_eq}
-use Rattle.std.specs.Option.{option_copied}
+use Rattle.std.specs.Prelude.{◌≡◌, ◌⊎◌, ℕ, false, List, [], map, Option, Some, None, Ok, Err, Result, find}
+use Rattle.std.specs.Prelude.{bytes_eq, take}
+use Rattle.std.specs.Option.{option_copied, option_map}
+use Rattle.std.specs.Prelude.{String, Vec}
+use Rattle.std.specs.Global.{Global}
 use Rattle.std.specs.String.{string_bytes}
 use Rattle.dns_names.specs.Name.{Labels}
 use Rattle.dns_names.specs.Text.{name_of_text}
@@ -41,3 +44,35 @@ abbrev pub IsNoZoneFile : File → List ℕ → Fault → Type 0
 IsNoZoneFile config origin fault =
     HoldsConfiguration (option_copied config.octets) (Err fault)
     ⊎ ((e : StatedError) × (name_of_text [] origin ≡ Err e) × (fault ≡ BadOrigin))
+
+-- A file that was read: its path, and its octets if it could be read.
+abbrev pub Input : Type 0
+Input = List ℕ × Option (List ℕ)
+
+-- The octets that a file was found to have.
+abbrev pub octets_held : Option (Vec ℕ Global) → Option (List ℕ)
+octets_held octets = option_map (λ (v : Vec ℕ Global). v.items) octets
+
+abbrev pub octets_read : {E : Type 0} → Result (Option (Vec ℕ Global)) E → Option (List ℕ)
+octets_read (Ok octets) = octets_held octets
+octets_read (Err error) = None
+
+-- Files that were read, each with its path.
+abbrev pub inputs_of : List (String Global × Option (Vec ℕ Global)) → List Input
+inputs_of files = map (λ (f : String Global × Option (Vec ℕ Global)). (string_bytes f.0, octets_held f.1)) files
+
+-- The master files of the first zones were read, in their order.
+abbrev pub AreFirstFiles : List ZoneSettings → List Input → Type 0
+AreFirstFiles zones reads =
+    (count : ℕ) × (map (λ (r : Input). r.0) reads ≡ file_paths (take count zones))
+
+-- No file was read, or those of the first zones of the configuration that a file holds.
+abbrev pub AreFirstOf : Option (List ℕ) → List Input → Type 0
+AreFirstOf config reads =
+    (reads ≡ [])
+    ⊎ ((c : Configuration) × HoldsConfiguration config (Ok c) × AreFirstFiles c.zones.items reads)
+
+-- A file as it was read.
+pub record IsInput (file : File) (read : Input) : Type 0 where
+  pub path : file.path.now ≡ read.0
+  pub octets : option_copied file.octets ≡ read.1

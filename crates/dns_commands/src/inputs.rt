@@ -1,8 +1,11 @@
 //! The files that a run reads.
-ghost use Rattle.std.specs.Prelude.{◌≡◌, map, find, bytes_eq, IfOk, MatchResult};
+ghost use Rattle.std.specs.Prelude.{◌≡◌, ◌∷◌, [], List, Option, None, map, find, bytes_eq, MatchResult};
 ghost use Rattle.std.specs.Option.{option_copied};
 ghost use Rattle.std.specs.String.{string_bytes};
-ghost use Rattle.dns_commands.specs.Inputs.{AreFilesOf, IsNoZoneFile, IsZoneFile, file_paths};
+ghost use Rattle.dns_configuration.specs.Calls.{Calls, HasCalled};
+ghost use Rattle.dns_commands.specs.Inputs.{AreFilesOf, AreFirstFiles, AreFirstOf, Input, IsInput};
+ghost use Rattle.dns_commands.specs.Inputs.{IsNoZoneFile, IsZoneFile, file_paths, inputs_of, octets_held};
+ghost use Rattle.dns_commands.specs.Inputs.{octets_read};
 
 use dns_configuration::{Fault, File, ZoneSettings, apex, read_configuration, zone_of};
 use dns_memory::Heap;
@@ -29,7 +32,9 @@ pub fn octets(rt: &HostRuntime, path: &str) -> io::Result<Option<Vec<u8>>> {
 }
 
 /// The file of a path and its octets.
-pub fn file<'a>(path: &'a str, octets: &'a Option<Vec<u8>>) -> File<'a> {
+pub fn file<'a>(path: &'a str, octets: &'a Option<Vec<u8>>) -> File<'a>
+    ensures { IsInput result (path.now, octets_held octets.now) }
+{
     File {
         path,
         octets: match octets {
@@ -48,39 +53,70 @@ pub fn octets_in(rt: &HostRuntime, folder: &str, name: &str) -> io::Result<Optio
     octets(rt, &path)
 }
 
-/// The paths of the master files of these zones, in their order, and the octets of each in the folder.
-fn files_of(
-    rt: &HostRuntime,
-    folder: &str,
+/// Files that are read, by their paths.
+pub trait Inputs {
+    /// The files that were read so far, in order; `None` if they are not known, as those of a system are not.
+    ghost reads: { Self → Option (List Input) };
+
+    /// The octets of the file at a path, none if there is no file or it can't be read. Refused memory is an
+    /// error, and does not make a file unreadable.
+    fn octets(&mut self, path: &str) -> io::Result<Option<Vec<u8>>>
+        ensures { HasCalled (reads self.old) (reads self.new) ((path.now, octets_read result) ∷ []) };
+}
+
+/// The files of the system in a folder, or, if that has no name, where the program runs. Nothing that is
+/// proved says what they hold.
+#[derive(Clone, Copy)]
+pub struct Folder<'a> {
+    pub rt: &'a HostRuntime,
+    pub name: &'a str,
+}
+
+impl Inputs for Folder<'_> {
+    ghost reads = { λ _. None };
+
+    fn octets(&mut self, path: &str) -> io::Result<Option<Vec<u8>>> {
+        octets_in(self.rt, self.name, path)
+    }
+}
+
+/// The paths of the master files of these zones, in their order, and the octets of each.
+fn files_of<N: Inputs>(
+    alloc: Global,
+    inputs: &mut N,
     zones: &[ZoneSettings],
 ) -> io::Result<Vec<(String, Option<Vec<u8>>)>>
-    ensures { IfOk result
-        (λ files. map (λ file. string_bytes file.0) files.items ≡ file_paths zones.now) }
+    ensures { Calls (N.reads inputs.old) (N.reads inputs.new) (λ reads. MatchResult result
+        (λ files. (reads ≡ inputs_of files.items)
+        × (map (λ file. string_bytes file.0) files.items ≡ file_paths zones.now))
+        (λ _. AreFirstFiles zones.now reads)) }
 {
-    let mut files = Vec::new(rt.alloc());
+    let mut files = Vec::new(alloc);
     for zone in zones {
-        let octets = octets_in(rt, folder, &zone.file)?;
+        let octets = inputs.octets(&zone.file)?;
         files.push((zone.file.clone()?, octets))?;
     }
     Ok(files)
 }
 
-/// The paths of the master files that a configuration names, and the octets of each, in the folder in which
-/// the paths begin; none where the configuration can't be read or is refused. Refused memory is an error, and
-/// not a configuration without files.
-pub fn master_files(
-    rt: &HostRuntime,
+/// The paths of the master files that a configuration names, and the octets of each, which are read in their
+/// order; none if the configuration can't be read or is refused. Refused memory is an error, and not a
+/// configuration without files.
+pub fn master_files<N: Inputs>(
+    alloc: Global,
     heap: Heap,
-    folder: &str,
+    inputs: &mut N,
     config: &File<'_>,
 ) -> io::Result<Vec<(String, Option<Vec<u8>>)>>
-    ensures { IfOk result (λ files.
-        AreFilesOf (option_copied config.now.octets) (map (λ file. string_bytes file.0) files.items)) }
+    ensures { Calls (N.reads inputs.old) (N.reads inputs.new) (λ reads. MatchResult result
+        (λ files. (reads ≡ inputs_of files.items)
+        × AreFilesOf (option_copied config.now.octets) (map (λ file. string_bytes file.0) files.items))
+        (λ _. AreFirstOf (option_copied config.now.octets) reads)) }
 {
-    match read_configuration(rt.alloc(), heap, config) {
-        Ok(configuration) => files_of(rt, folder, &configuration.zones),
+    match read_configuration(alloc, heap, config) {
+        Ok(configuration) => files_of(alloc, inputs, &configuration.zones),
         Err(Fault::OutOfMemory) => Err(io::ErrorKind::OutOfMemory.into()),
-        Err(_) => Ok(Vec::new(rt.alloc())),
+        Err(_) => Ok(Vec::new(alloc)),
     }
 }
 

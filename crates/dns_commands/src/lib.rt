@@ -30,6 +30,6 @@ pub use explain_system::{
     explain_devices, explain_other, explain_unmade, explain_unreadable, explain_unserved,
 };
 pub use frame::Run;
-pub use inputs::{file, is_file, master_files, octets, octets_in, zone_file};
+pub use inputs::{Folder, Inputs, file, is_file, master_files, octets, octets_in, zone_file};
 pub use next_version::{Loaded, load_zone};
 pub use warnings::warn_of_configuration;

@@ -7,6 +7,8 @@ mod calls;
 #[cfg(test)]
 mod changes;
 #[cfg(test)]
+mod forks;
+#[cfg(test)]
 mod large;
 #[cfg(test)]
 mod large_sets;

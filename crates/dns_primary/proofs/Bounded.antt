@@ -1,5 +1,5 @@
 -- No more waits for a flush than may.
-use Rattle.std.proofs.Common.{◌≡◌, ◌⊎◌, ◌<◌, ◌≤◌, ℕ, suc, Bool, true, false, inl, inr, ⊎_elim, List, [], ◌∷◌, ◌++◌, length, map, Option, Some, None, refl, sym, ap, subst, ◌∙◌, arith}
+use Rattle.std.proofs.Common.{◌≡◌, ◌⊎◌, ◌<◌, ◌≤◌, ℕ, zero, suc, Bool, true, false, inl, inr, ⊎_elim, List, [], ◌∷◌, ◌++◌, length, map, Option, Some, None, refl, sym, ap, subst, ◌∙◌, arith}
 use Rattle.std.specs.Prelude.{slice_get, slice_set, not, ◌==◌, ◌||◌, nat_lt, if◌then◌else◌}
 use Rattle.std.specs.List.{AllByRecursion}
 use Rattle.std.proofs.lemmas.List.{length-append, length-map}
@@ -20,7 +20,7 @@ use Rattle.dns_primary.specs.declared.event.Peer.{Peer}
 use Rattle.dns_primary.specs.declared.event.To.{To}
 use Rattle.dns_primary.specs.declared.event.To.TheVariants as to
 use Rattle.dns_primary.specs.Machine.{Made, ZoneState, Waits, Machine, kept_of, updates_of, peer_at, sending_at}
-use Rattle.dns_primary.specs.Flush.{Sent, is_none_made, flushed, flushed_zone, flushed_zones, flush_sends}
+use Rattle.dns_primary.specs.Flush.{Sent, is_closed_in, is_none_made, flushed, flushed_zone, flushed_zones, flush_sends}
 use Rattle.dns_primary.specs.Connections.{closed, without_connection}
 use Rattle.dns_primary.specs.Update.{Asked, Admission, Rejects, Admits, zone_position, admission_in, admission_at, admission, waits, stages, with_staged, accepted_in, judged_in, admitted, is_full, made_place, answer, room_lacked}
 use Rattle.dns_primary.specs.Checkpoint.{rebased, IsMovedUnlessClosed, IsCheckpoint}
@@ -28,8 +28,9 @@ use Rattle.dns_primary.specs.Step.{Event, Datagram, Connect, Arrives, Flush, Che
 use Rattle.dns_primary.specs.Stop.{AreRecovered, IsSetAnew, IsConfigured}
 use Rattle.dns_primary.specs.Fresh.{IsLoaded, IsFresh, IsReopened, IsResumed, IsStart}
 use Rattle.dns_primary.specs.Runs.{Moment, Took, Stopped, Configured, machine_after, Happens, Run, last_of}
-use Rattle.dns_primary.specs.Bounds.{HasFewStaged, IsBounded}
+use Rattle.dns_primary.specs.Bounds.{HasFewStaged, IsBounded, IsForOpen}
 use Rattle.dns_primary.proofs.Quiet.{IsQuiet, transferred_quiet, pumped_quiet}
+use Rattle.dns_primary.proofs.Sound.{all_with}
 use Rattle.dns_primary.proofs.Zonewise.{tested, all_found, all_set, pair_over}
 use Rattle.dns_primary.proofs.Preserved.{StandsIn, admission_stands}
 
@@ -41,6 +42,7 @@ record Fits (n : ℕ) (z : ZoneState) : Type 0 where
 record AllFit (m : Machine) : Type 0 where
   few : length m.waiting ≤ 32
   each : AllByRecursion (Fits (length m.waiting)) m.zones
+  opened : AllByRecursion (IsForOpen m.zones) m.waiting
 
 fits_more : (n k : ℕ) (z : ZoneState) → n ≤ k → Fits n z → Fits k z
 fits_more n k z le h = record { few = h.few; wait = ⊎_elim (λ shut. inl shut) (λ at_most. inr (omega (arith, at_most, le))) h.wait }
@@ -76,7 +78,7 @@ all_flushed n (f ∷ fails) [] e h = absurd (omega (arith, e))
 all_flushed n (f ∷ fails) (z ∷ zones) e h = (flushed_fits n f z h.0, all_flushed n fails zones (omega (arith, e)) h.1)
 
 flush_fits : (fails : List Bool) (m : Machine) → length fails ≡ length m.zones → AllFit m → AllFit (flushed fails m)
-flush_fits fails m long h = record { few = omega arith; each = all_flushed (length m.waiting) fails m.zones long h.each }
+flush_fits fails m long h = record { few = omega arith; each = all_flushed (length m.waiting) fails m.zones long h.each; opened = tt }
 
 -- a checkpoint
 rebased_fits : (n : ℕ) (fails : Bool) (base : ℕ) (z : ZoneState) → Fits n z → Fits n (rebased fails base z)
@@ -97,7 +99,7 @@ checkpoint_fits place room old fails moving new made h =
     let here = flushed fails old in
     let fit = flush_fits fails old made.all h in
     let one = moved_fits 0 moving room made.zone made.next made.moved (all_found (Fits 0) here.zones place made.zone fit.each made.stands) in
-    subst HasRoom (sym made.is) (record { fit = record { few = omega arith; each = all_set (Fits 0) here.zones place made.next fit.each one }; room = omega arith })
+    subst HasRoom (sym made.is) (record { fit = record { few = omega arith; each = all_set (Fits 0) here.zones place made.next fit.each one; opened = tt }; room = omega arith })
 
 not_full : (b : Bool) → not b ≡ false → b ≡ true
 not_full true e = refl
@@ -117,11 +119,30 @@ begun_fits fails old (Some lacked) first mid b h = checkpoint_fits lacked.0 lack
 one_more : {X : Type 0} (xs : List X) (x : X) → length (xs ++ x ∷ []) ≡ suc (length xs)
 one_more xs x = length-append xs (x ∷ []) ∙ omega arith
 
-wait_fits : (m : Machine) (a : Asked) (place rcode : ℕ) (updates : List Made) → HasRoom m → AllFit (waits m a place rcode updates)
-wait_fits m a place rcode updates h =
-    let len = one_more m.waiting (record { to = a.to; header = a.message.header; rcode = rcode; zone = place; updates = updates }) in
+wait_fits : (m : Machine) (a : Asked) (place rcode : ℕ) (updates : List Made) → is_closed_in (slice_get m.zones place) ≡ false → HasRoom m → AllFit (waits m a place rcode updates)
+wait_fits m a place rcode updates opened h =
+    let one : Waits = record { to = a.to; header = a.message.header; rcode = rcode; zone = place; updates = updates } in
+    let len = one_more m.waiting one in
     let room = h.room in
-    record { few = omega (arith, len, room); each = all_more (length m.waiting) _ m.zones (omega (arith, len)) (h.fit).each }
+    record {
+      few = omega (arith, len, room);
+      each = all_more (length m.waiting) _ m.zones (omega (arith, len)) (h.fit).each;
+      opened = all_with (IsForOpen m.zones) m.waiting (one ∷ []) (h.fit).opened (opened, tt);
+    }
+
+-- a zone that is changed, and not closed, is as open as before
+set_open : (zones : List ZoneState) (place number : ℕ) (z w : ZoneState) → slice_get zones place ≡ Some z → w.closed ≡ z.closed
+    → is_closed_in (slice_get (slice_set zones place w) number) ≡ is_closed_in (slice_get zones number)
+set_open [] place number z w stands same = absurd (cc stands)
+set_open (x ∷ zones) zero zero z w stands same = same ∙ ap is_closed_in (sym stands)
+set_open (x ∷ zones) zero (suc number) z w stands same = refl
+set_open (x ∷ zones) (suc place) zero z w stands same = refl
+set_open (x ∷ zones) (suc place) (suc number) z w stands same = set_open zones place number z w stands same
+
+still_open : (old new : List ZoneState) → ((number : ℕ) → is_closed_in (slice_get new number) ≡ is_closed_in (slice_get old number)) → (ws : List Waits)
+    → AllByRecursion (IsForOpen old) ws → AllByRecursion (IsForOpen new) ws
+still_open old new same [] h = tt
+still_open old new same (w ∷ ws) h = (same w.zone ∙ h.0, still_open old new same ws h.1)
 
 staged_fits : (n : ℕ) (made : Made) (z : ZoneState) → n < 32 → z.closed ≡ false → Fits n z → Fits (suc n) (with_staged made z)
 staged_fits n made z room opened h =
@@ -133,12 +154,18 @@ stage_fits : (m : Machine) (a : Asked) (place : ℕ) (z : ZoneState) (records : 
 stage_fits m a place z records stands opened h =
     let made : Made = record { update = a.message; records = records } in
     let n = length m.waiting in
-    let machine_after = slice_set m.zones place (with_staged made z) in
-    let one = staged_fits n made z h.room opened (all_found (Fits n) m.zones place z (h.fit).each stands) in
-    let each = all_set (Fits (suc n)) m.zones place (with_staged made z) (all_more n (suc n) m.zones (omega arith) (h.fit).each) one in
-    let len = one_more m.waiting (record { to = a.to; header = a.message.header; rcode = 0; zone = place; updates = updates_of (with_staged made z) }) in
+    let zones_after = slice_set m.zones place (with_staged made z) in
+    let staged = staged_fits n made z h.room opened (all_found (Fits n) m.zones place z (h.fit).each stands) in
+    let each = all_set (Fits (suc n)) m.zones place (with_staged made z) (all_more n (suc n) m.zones (omega arith) (h.fit).each) staged in
+    let one : Waits = record { to = a.to; header = a.message.header; rcode = 0; zone = place; updates = updates_of (with_staged made z) } in
+    let len = one_more m.waiting one in
     let room = h.room in
-    record { few = omega (arith, len, room); each = all_more (suc n) _ machine_after (omega (arith, len)) each }
+    let same : (number : ℕ) → is_closed_in (slice_get zones_after number) ≡ is_closed_in (slice_get m.zones number) = λ number. set_open m.zones place number z (with_staged made z) stands refl in
+    record {
+      few = omega (arith, len, room);
+      each = all_more (suc n) _ zones_after (omega (arith, len)) each;
+      opened = all_with (IsForOpen zones_after) m.waiting (one ∷ []) (still_open m.zones zones_after same m.waiting (h.fit).opened) (same place ∙ ap is_closed_in stands ∙ opened, tt);
+    }
 
 abbrev AnswerFits : Machine × List Sent → Type 0
 AnswerFits p = AllFit p.0
@@ -147,11 +174,11 @@ accepted_fits : (m : Machine) (a : Asked) (place : ℕ) (z : ZoneState) (records
 accepted_fits m a place z records stands opened h =
     tested AnswerFits (has_room (kept_of z) records) (stages m a place z records, []) (waits m a place rcode_servfail (updates_of z), [])
     (λ _. stage_fits m a place z records stands opened h)
-    (λ _. wait_fits m a place rcode_servfail (updates_of z) h)
+    (λ _. wait_fits m a place rcode_servfail (updates_of z) (ap is_closed_in stands ∙ opened) h)
 
 judged_fits : (m : Machine) (a : Asked) (place : ℕ) (z : ZoneState) (v : Verdict) → slice_get m.zones place ≡ Some z → z.closed ≡ false → HasRoom m → AnswerFits (judged_in m a place z v)
-judged_fits m a place z (Refuses rcode) stands opened h = wait_fits m a place (number_of_rcode rcode) (updates_of z) h
-judged_fits m a place z Keeps stands opened h = wait_fits m a place 0 (updates_of z) h
+judged_fits m a place z (Refuses rcode) stands opened h = wait_fits m a place (number_of_rcode rcode) (updates_of z) (ap is_closed_in stands ∙ opened) h
+judged_fits m a place z Keeps stands opened h = wait_fits m a place 0 (updates_of z) (ap is_closed_in stands ∙ opened) h
 judged_fits m a place z (Leaves records) stands opened h = accepted_fits m a place z records stands opened h
 
 -- a zone that is admitted is open
@@ -197,13 +224,20 @@ quiet_fits old new sent q h = record {
   few = subst (λ (ws : List Waits). length ws ≤ 32) (sym q.waiting) h.few;
   each = subst (λ (zs : List ZoneState). AllByRecursion (Fits (length new.waiting)) zs) (sym q.zones)
       (subst (λ (ws : List Waits). AllByRecursion (Fits (length ws)) old.zones) (sym q.waiting) h.each);
+  opened = subst (λ (zs : List ZoneState). AllByRecursion (IsForOpen zs) new.waiting) (sym q.zones)
+      (subst (λ (ws : List Waits). AllByRecursion (IsForOpen old.zones) ws) (sym q.waiting) h.opened);
 }
+
+redirected_open : (zones : List ZoneState) (number : ℕ) (ws : List Waits) → AllByRecursion (IsForOpen zones) ws
+    → AllByRecursion (IsForOpen zones) (map (λ (w : Waits). record w { to = without_connection number w.to }) ws)
+redirected_open zones number [] h = tt
+redirected_open zones number (w ∷ ws) h = (h.0, redirected_open zones number ws h.1)
 
 close_fits : (number : ℕ) (m : Machine) → AllFit m → AllFit (closed number m)
 close_fits number m h =
     let len = length-map m.waiting (λ (w : Waits). record w { to = without_connection number w.to }) in
     let few = h.few in
-    record { few = omega (arith, len, few); each = all_more (length m.waiting) _ m.zones (omega (arith, len)) h.each }
+    record { few = omega (arith, len, few); each = all_more (length m.waiting) _ m.zones (omega (arith, len)) h.each; opened = redirected_open m.zones number m.waiting h.opened }
 
 served_fits : (fails : List Bool) (old : Machine) (to : To) (peer : Peer) (k : Handled) (effects : Effects) (new : Machine) → IsRequestHandled fails old to peer k effects new → AllFit old → AllFit new
 served_fits fails old to peer NoReply effects new g h = subst AllFit (sym (g.1).state) h
@@ -224,7 +258,7 @@ checkpointed_fits fails old place (Some z) effects new g h = (checkpoint_fits pl
 event_fits : (fails : List Bool) (old : Machine) (event : Event) (effects : Effects) (new : Machine) → Goes fails old event effects new → AllFit old → AllFit new
 event_fits fails old (Datagram peer octets) effects new g h = served_fits fails old (to.Address peer) peer _ effects new g h
 event_fits fails old (Connect peer) effects new g h = elim (g.1) [
-  | inl c ↦ subst AllFit (sym c.state) (record { few = h.few; each = h.each })
+  | inl c ↦ subst AllFit (sym c.state) (record { few = h.few; each = h.each; opened = h.opened })
   | inr c ↦ subst AllFit (sym (c.1).state) h
 ]
 event_fits fails old (Arrives number octets) effects new g h = arrived_fits fails old number (peer_at number old.connections) octets effects new g h
@@ -257,6 +291,7 @@ nothing_fits : (m : Machine) → m.waiting ≡ [] → AllByRecursion (Fits 0) m.
 nothing_fits m none each = record {
   few = subst (λ (ws : List Waits). length ws ≤ 32) (sym none) (omega arith);
   each = subst (λ (ws : List Waits). AllByRecursion (Fits (length ws)) m.zones) (sym none) each;
+  opened = subst (λ (ws : List Waits). AllByRecursion (IsForOpen m.zones) ws) (sym none) tt;
 }
 
 anew_fits : (n : ℕ) (z w : ZoneState) → IsSetAnew z w → Fits n z → Fits n w
@@ -270,6 +305,7 @@ configured_fits old new c h =
       few = subst (λ (ws : List Waits). length ws ≤ 32) (sym same) h.few;
       each = subst (λ (ws : List Waits). AllByRecursion (Fits (length ws)) new.zones) (sym same)
           (pair_over IsSetAnew (Fits (length old.waiting)) (anew_fits (length old.waiting)) old.zones new.zones c.zones h.each);
+      opened = subst (λ (ws : List Waits). AllByRecursion (IsForOpen new.zones) ws) (sym (same ∙ c.waiting)) tt;
     }
 
 moment_fits : (old : Machine) (t : Moment) → Happens old t → AllFit old → AllFit (machine_after t)
@@ -286,7 +322,7 @@ few_of n [] h = tt
 few_of n (z ∷ zones) h = ((h.0).few, few_of n zones h.1)
 
 bounded : (m : Machine) → AllFit m → IsBounded m
-bounded m h = record { waiting = h.few; staged = few_of (length m.waiting) m.zones h.each }
+bounded m h = record { waiting = h.few; staged = few_of (length m.waiting) m.zones h.each; opened = h.opened }
 
 -- where a run begins
 loaded_fit : (zones : List Zone) (settings : List ZoneSpec) (states : List ZoneState) → Each3 IsLoaded zones settings states → AllByRecursion (Fits 0) states

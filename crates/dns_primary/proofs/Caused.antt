@@ -1,5 +1,5 @@
 -- What replies with SERVFAIL come of.
-use Rattle.std.proofs.Common.{◌≡◌, ◌⊎◌, inl, inr, ⊎_elim, ◌<◌, ℕ, Bool, true, false, List, [], ◌∷◌, ◌++◌, length, map, Option, Some, None, Result, Ok, Err, refl, sym, ap, subst, ◌∙◌, arith, suc}
+use Rattle.std.proofs.Common.{◌≡◌, ◌⊎◌, inl, inr, ⊎_elim, ◌<◌, ℕ, Bool, true, false, List, [], ◌∷◌, ◌++◌, length, map, Option, Some, None, Result, Ok, Err, refl, sym, ap, subst, ◌∙◌, arith, zero, suc}
 use Rattle.std.specs.Prelude.{slice_get, not, ◌&&◌, ◌||◌, ◌==◌, ◌%◌, nat_le, nat_lt, is_none, is_some, option_map}
 use Rattle.std.specs.List.{AllByRecursion, Contains}
 use Rattle.std.proofs.lemmas.Bool.Decides.{nat_tests}
@@ -38,6 +38,7 @@ use Rattle.dns_primary.specs.Update.{Asked, Admission, Rejects, Admits, admissio
 use Rattle.dns_primary.specs.Transfer.{transfer_version, zone_named, transport_of, is_free, may_have, OpensFrom, refusal_of, TransferBegins, IsStarted, IsTransferred, IsSentOn, IsPumped}
 use Rattle.dns_primary.specs.Step.{Event, Datagram, Connect, Arrives, Flush, Checkpoint, Pump, Closed, IsCheckpointed, IsUpdateBegun, IsUpdated, Effects, IsRequestHandled, IsArrived, Goes, Step}
 use Rattle.dns_primary.specs.Runs.{IsReleasedFrom}
+use Rattle.dns_primary.specs.Bounds.{IsBounded, IsForOpen}
 use Rattle.dns_primary.specs.Causes.{code_of, IsForClosed, LacksRoom, UpdateCause, IsTooLong, RequestCause, ArrivedCause, EventCause, HasCause, Waited, HaveCauses}
 use Rattle.dns_primary.proofs.Quiet.{IsQuiet, transferred_quiet, pumped_quiet}
 use Rattle.dns_primary.proofs.Zonewise.{tested}
@@ -348,19 +349,28 @@ goes fails old (Pump number) effects new g = pumped old number (sending_at numbe
 goes fails old (Closed number) effects new g = reaches _ old new _ effects.sent [] (g.1).state (g.1).sent (record { sent = tt; waiting = redirected _ old number old.waiting (λ w h. h) })
 
 -- those that waited
-released_by : (closed : Bool) (w : Waits) (rcode : ℕ) → (rcode ≡ w.rcode) ⊎ ((rcode ≡ rcode_servfail) × (closed ≡ true)) → rcode ≡ 2 → (w.rcode ≡ 2) ⊎ (closed ≡ true)
-released_by closed w rcode (inl is) e = inl (sym is ∙ e)
-released_by closed w rcode (inr is) e = inr is.1
+found : (zones : List ZoneState) (ws : List Waits) (w : Waits) → AllByRecursion (IsForOpen zones) ws → Contains ws w → IsForOpen zones w
+found zones [] w all (k, small, is) = absurd (omega (arith, small))
+found zones (x ∷ ws) w all (zero, small, is) = subst (IsForOpen zones) is all.0
+found zones (x ∷ ws) w all (suc k, small, is) = found zones ws w all.1 (k, omega (arith, small), is)
 
-joined : (fails : List Bool) (old : Machine) (event : Event) (new : Machine) (sent : List Sent) → AllByRecursion (IsReleasedFrom old new) sent → AllByRecursion (AtOnce (EventCause fails old event)) sent
-    → AllByRecursion (HasCause fails old event new) sent
-joined fails old event new [] p q = tt
-joined fails old event new (Answered w rcode ∷ sent) p q = (released_by (is_closed_in (slice_get new.zones w.zone)) w rcode (p.0).1, joined fails old event new sent p.1 q.1)
-joined fails old event new (Replied to octets ∷ sent) p q = (q.0, joined fails old event new sent p.1 q.1)
+released_by : (was closed : Bool) (w : Waits) (rcode : ℕ) → was ≡ false → (rcode ≡ w.rcode) ⊎ ((rcode ≡ rcode_servfail) × (closed ≡ true)) → rcode ≡ 2
+    → (w.rcode ≡ 2) ⊎ ((was ≡ false) × (closed ≡ true))
+released_by was closed w rcode opened (inl is) e = inl (sym is ∙ e)
+released_by was closed w rcode opened (inr is) e = inr (opened, is.1)
 
-pub step_caused : (fails : List Bool) (old : Machine) (event : Event) (effects : Effects) (new : Machine) → Step fails old event effects new → (effects.noted ≡ OutOfMemory → ⊥)
+joined : (fails : List Bool) (old : Machine) (event : Event) (new : Machine) (sent : List Sent) → AllByRecursion (IsForOpen old.zones) old.waiting → AllByRecursion (IsReleasedFrom old new) sent
+    → AllByRecursion (AtOnce (EventCause fails old event)) sent → AllByRecursion (HasCause fails old event new) sent
+joined fails old event new [] opened p q = tt
+joined fails old event new (Answered w rcode ∷ sent) opened p q = (
+  released_by (is_closed_in (slice_get old.zones w.zone)) (is_closed_in (slice_get new.zones w.zone)) w rcode (found old.zones old.waiting w opened (p.0).0) (p.0).1,
+  joined fails old event new sent opened p.1 q.1,
+)
+joined fails old event new (Replied to octets ∷ sent) opened p q = (q.0, joined fails old event new sent opened p.1 q.1)
+
+pub step_caused : (fails : List Bool) (old : Machine) (event : Event) (effects : Effects) (new : Machine) → IsBounded old → Step fails old event effects new → (effects.noted ≡ OutOfMemory → ⊥)
     → HaveCauses fails old event effects.sent new
-step_caused fails old event effects new (inl g) some =
+step_caused fails old event effects new bounded (inl g) some =
     let ended = goes fails old event effects new g in
-    record { sent = joined fails old event new effects.sent (step_releases fails old event effects new (inl g)) ended.sent; waiting = ended.waiting }
-step_caused fails old event effects new (inr l) some = absurd (some l.noted)
+    record { sent = joined fails old event new effects.sent bounded.opened (step_releases fails old event effects new (inl g)) ended.sent; waiting = ended.waiting }
+step_caused fails old event effects new bounded (inr l) some = absurd (some l.noted)

@@ -87,11 +87,16 @@ EventCause fails m (Checkpoint place) = ⊥
 EventCause fails m (Pump number) = ⊥
 EventCause fails m (Closed number) = ⊥
 
--- A reply that waited goes out with SERVFAIL where it waited with it, or where its zone is closed then; one
+-- The zone at a position is closed in the event: its device failed.
+abbrev pub ClosesZone : Machine → Machine → ℕ → Type 0
+ClosesZone old new place =
+    (is_closed_in (slice_get old.zones place) ≡ false) × (is_closed_in (slice_get new.zones place) ≡ true)
+
+-- A reply that waited goes out with SERVFAIL if it waited with it, or if its zone is closed in the event; one
 -- to a request, by the request.
 abbrev pub HasCause : List Bool → Machine → Event → Machine → Sent → Type 0
 HasCause fails old event new (Answered w rcode) =
-    rcode ≡ rcode_servfail → (w.rcode ≡ rcode_servfail) ⊎ (is_closed_in (slice_get new.zones w.zone) ≡ true)
+    rcode ≡ rcode_servfail → (w.rcode ≡ rcode_servfail) ⊎ ClosesZone old new w.zone
 HasCause fails old event new (Replied to octets) =
     code_of octets ≡ rcode_servfail → EventCause fails old event
 

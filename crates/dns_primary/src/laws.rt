@@ -47,8 +47,8 @@ pub fn resumed_law()
         → IsResumed held start → Run start run → Continuation start run }
 {}
 
-/// In every run at most 32 replies wait, and of a zone at most 32 updates are staged: no flush makes more
-/// entries of a zone.
+/// In every run at most 32 replies wait, and none for a zone that is closed; and of a zone at most 32 updates
+/// are staged: no flush makes more entries of a zone.
 pub fn flush_law()
     ensures { (start : Machine) (run : List Moment) → IsStart start → Run start run
         → IsBounded (last_of start run) }
@@ -78,13 +78,14 @@ pub fn replies_wait_law()
         → AllByRecursion IsNoAcknowledgement effects.sent }
 {}
 
-/// Where memory is not refused, SERVFAIL comes only for a closed zone, for want of room, or for a reply by
-/// TCP over 65,535 octets: each reply with it that goes out, or that begins to wait, has such a cause. A zone
-/// whose device fails in a flush is closed by it.
+/// If memory is not refused, SERVFAIL comes only for a closed zone, for want of room, or for a reply by TCP
+/// over 65,535 octets: each reply with it that goes out, or that begins to wait, has such a cause. What waited
+/// gets it only if the device of its zone fails in this very event, which closes the zone. It is said of
+/// machines as `flush_law` finds them in each run.
 pub fn servfail_law()
     ensures { (fails : List Bool) (old : Machine) (event : StatedEvent)
         (effects : StatedEffects) (new : Machine)
-        → Step fails old event effects new → effects.noted ≢ OutOfMemory
+        → IsBounded old → Step fails old event effects new → effects.noted ≢ OutOfMemory
         → HaveCauses fails old event effects.sent new }
 {}
 

@@ -1,7 +1,7 @@
 //! Runs of a script over the master files of a configuration.
 use crate::refusing::refuse_each;
 use crate::{Ended, Words, started};
-use dns_commands::{explain_replay, file, master_files, octets_in, replay};
+use dns_commands::{Folder, explain_replay, file, master_files, octets_in, replay};
 use dns_configuration::{DONE, File};
 use dns_memory::Heap;
 use std::io;
@@ -68,7 +68,11 @@ pub(crate) fn over_files(
     let config = octets_in(rt, words.first, words.second)?;
     let script = octets_in(rt, words.first, words.third)?;
     let (config, script) = (file(words.second, &config), file(words.third, &script));
-    let texts = master_files(rt, heap, words.first, &config)?;
+    let mut folder = Folder {
+        rt,
+        name: words.first,
+    };
+    let texts = master_files(rt.alloc(), heap, &mut folder, &config)?;
     let mut files = Vec::new(rt.alloc());
     for (path, text) in &texts {
         files.push(file(path, text))?;

@@ -40,7 +40,7 @@ use Rattle.dns_theorem.proofs.Sessions.{IsOpenedFor, opened_for, as_messages, on
 use Rattle.dns_secondary.proofs.Ends.{rest_once}
 use Rattle.dns_theorem.proofs.Prefixes.{only_current}
 
-all_front : (xs ys : List Record) → AllByRecursion IsRecord (xs ++ ys) → AllByRecursion IsRecord xs × AllByRecursion IsRecord ys
+pub all_front : (xs ys : List Record) → AllByRecursion IsRecord (xs ++ ys) → AllByRecursion IsRecord xs × AllByRecursion IsRecord ys
 all_front [] ys h = (tt, h)
 all_front (x ∷ xs) ys h = (let rest = all_front xs ys h.1 in ((h.0, rest.0), rest.1))
 
@@ -48,7 +48,7 @@ items_joined : (xs ys : List Record) → map item_of (xs ++ ys) ≡ map item_of 
 items_joined [] ys = refl
 items_joined (x ∷ xs) ys = ap (λ (zs : List ResourceRecord). item_of x ∷ zs) (items_joined xs ys)
 
-valid_reply : (h : Heading) (question : Option EchoedQuestion) (sent : List Record) → h.id < 2 ^ 16 → IfSome question IsEchoed
+pub valid_reply : (h : Heading) (question : Option EchoedQuestion) (sent : List Record) → h.id < 2 ^ 16 → IfSome question IsEchoed
     → length (octets_with h question sent) ≤ 16384 → AllByRecursion IsRecord sent → IsReply (message_with h question sent)
 valid_reply h question sent small echoed fits each =
     let long = text_long (message_with h question sent) in

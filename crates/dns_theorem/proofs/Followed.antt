@@ -145,15 +145,15 @@ at_found : (P : ZoneState → Type 0) (zones : List ZoneState) (z : ZoneState) (
 at_found P zones z None h e = absurd cc
 at_found P zones z (Some place) h e = all_found P zones place z h e
 
-named_found : (P : ZoneState → Type 0) (apex : Labels) (zones : List ZoneState) (z : ZoneState) → AllByRecursion P zones → zone_named apex zones ≡ Some z → P z
+pub named_found : (P : ZoneState → Type 0) (apex : Labels) (zones : List ZoneState) (z : ZoneState) → AllByRecursion P zones → zone_named apex zones ≡ Some z → P z
 named_found P apex zones z h e = at_found P zones z (zone_position apex zones) h e
 
 -- loaded as a sound zone
-abbrev IsSoundlyLoaded : ZoneState → Type 0
+abbrev pub IsSoundlyLoaded : ZoneState → Type 0
 IsSoundlyLoaded z = IsSoundZone (record { apex = z.setting.shape.apex; records = z.loaded })
 
 -- what is loaded has no update
-loaded_soundly : (zones : List Zone) (settings : List ZoneSpec) (states : List ZoneState) → AllByRecursion IsSoundZone zones → Each3 IsLoaded zones settings states → AllByRecursion IsSoundState states
+pub loaded_soundly : (zones : List Zone) (settings : List ZoneSpec) (states : List ZoneState) → AllByRecursion IsSoundZone zones → Each3 IsLoaded zones settings states → AllByRecursion IsSoundState states
 loaded_soundly [] [] [] s h = tt
 loaded_soundly (a ∷ zones) (t ∷ settings) (z ∷ states) s h =
     let apex : a.apex ≡ z.setting.shape.apex = sym (ap (λ x. x.apex) (h.0).shape) in
@@ -168,12 +168,12 @@ loaded_soundly (a ∷ zones) (t ∷ settings) (z ∷ states) s h =
 loaded_soundly _ _ _ s h = absurd h
 
 -- What is known of a zone in a run: it was loaded soundly, and its updates came and were accepted.
-record IsKnown (w : ZoneState) : Type 0 where
-  loaded : IsSoundlyLoaded w
-  history : HasHistory w
-  sent : AreSent (updates_of w)
+pub record IsKnown (w : ZoneState) : Type 0 where
+  pub loaded : IsSoundlyLoaded w
+  pub history : HasHistory w
+  pub sent : AreSent (updates_of w)
 
-known_each : (m : Machine) (run : List Moment) (olds news : List ZoneState) → AllByRecursion AreOctetsIn run → AllByRecursion IsSoundState olds → AllLast olds news
+pub known_each : (m : Machine) (run : List Moment) (olds news : List ZoneState) → AllByRecursion AreOctetsIn run → AllByRecursion IsSoundState olds → AllLast olds news
     → AllByRecursion HasHistory news → Each2 (AllCameSince m run) olds news → AllByRecursion IsKnown news
 known_each m run [] [] o s l h c = tt
 known_each m run [] (w ∷ news) o s l h c = absurd l
@@ -209,7 +209,7 @@ take_all [] ys = refl
 take_all (x ∷ xs) ys = ap (λ (vs : Versions). x.records ∷ vs) (take_all xs ys)
 
 module _ (w : ZoneState) (k : IsKnown w) where
-  abbrev apex : Labels
+  abbrev pub apex : Labels
   apex = w.setting.shape.apex
 
   shown_history : IsHistory w.setting.shape 0 w.loaded w.shown
@@ -218,19 +218,19 @@ module _ (w : ZoneState) (k : IsKnown w) where
   shown_sent : AreSent w.shown
   shown_sent = front_sent w.shown w.staged k.sent
 
-  whole : Leads apex w.loaded (versions_of w.shown)
+  pub whole : Leads apex w.loaded (versions_of w.shown)
   whole = leads_on w.setting.shape 0 w.loaded w.shown (k.loaded).valid (k.loaded).each shown_history shown_sent
 
-  abbrev base : List Record
+  abbrev pub base : List Record
   base = version_at (kept_of w) w.base
 
-  abbrev kept : List Change
+  abbrev pub kept : List Change
   kept = changes_along base (drop w.base (versions_of w.shown))
 
   front_is : changes_along w.loaded (versions_of w.shown) ≡ (from_number w.loaded (versions_of w.shown) w.base).front ++ kept
   front_is = (from_number w.loaded (versions_of w.shown) w.base).is
 
-  kept_valid : AllByRecursion IsValidChange kept
+  pub kept_valid : AllByRecursion IsValidChange kept
   kept_valid = valid_pending _ kept (subst (AllByRecursion IsValidChange) front_is whole.changes)
 
   -- the changes that are kept lead to what is shown
@@ -344,7 +344,7 @@ same_some : (a b : ZoneState) → ◌≡◌ {A = Option ZoneState} (Some a) (Som
 same_some a b e = cc
 
 -- a session that is opened sends something
-some_left : (s : Sending) (kept : List Change) (shown : List Record) (client : Option ℕ) → soas shown ≡ s.soa ∷ [] → s.left ≡ transfer_of shown kept client → s.left ≡ [] → ⊥
+pub some_left : (s : Sending) (kept : List Change) (shown : List Record) (client : Option ℕ) → soas shown ≡ s.soa ∷ [] → s.left ≡ transfer_of shown kept client → s.left ≡ [] → ⊥
 some_left s kept shown client one left none = go (form_of (serial_of s.soa) kept client) from
   where
     from : transfer_answer s.soa shown (form_of (serial_of s.soa) kept client) ≡ []
@@ -498,7 +498,7 @@ followed_from start earlier between later' event fails effects opened s number s
 before_run : (start : Machine) (earlier between later' : List Moment) (t : Moment) → Run start ((earlier ++ between) ++ t ∷ later') → Run start (earlier ++ between)
 before_run start earlier between later' t run = (run_parts start (earlier ++ between) (t ∷ later') run).0
 
-promise_goes : (start : Machine) (run : List Moment) → Run start run → Promise start run → Continuation start run
+pub promise_goes : (start : Machine) (run : List Moment) → Run start run → Promise start run → Continuation start run
 promise_goes start run r p = record { loaded = p.loaded; history = p.history; came = all_came_since start run r; openings = p.openings; moments = p.moments }
 
 pub loaded_are_followed : TransfersAreFollowed BeginsLoaded

@@ -9,3 +9,4 @@ pub mod Given
 pub mod Chained
 pub mod Read
 pub mod Followed
+pub mod MessagesRead

@@ -1,3 +1,4 @@
 pub mod Versions
 pub mod Copies
 pub mod Headline
+pub mod Messages

@@ -1,6 +1,7 @@
 //! The laws that join what `dns_transfer` sends to what `dns_secondary` makes of it, and both to the machine.
 ghost use Rattle.dns_theorem.specs.Copies.{TransferIsTaken, TransferIsFollowed};
 ghost use Rattle.dns_theorem.specs.Headline.{BeginsLoaded, BeginsResumed, TransfersAreFollowed};
+ghost use Rattle.dns_theorem.specs.Messages.{TransfersAreRead};
 
 /// The records of a transfer mean the version that is shown to whoever holds nothing, or an older version of
 /// the window (RFC 1995 sections 2 and 4, RFC 5936 section 2.2).
@@ -32,4 +33,13 @@ pub fn copies_law()
 pub fn headline_law()
     ensures loaded { TransfersAreFollowed BeginsLoaded }
     ensures resumed { TransfersAreFollowed BeginsResumed }
+{}
+
+/// Whatever request opens a transfer on a connection, in a run as above: each message that the machine gives
+/// out for it, up to its end, is the one compressed text of a valid message (RFC 1035 section 4.1.4), reads
+/// as that, and its answers, one message after the other, are the records of the transfer, each once and in
+/// order (RFC 5936 section 2.2).
+pub fn messages_law()
+    ensures loaded { TransfersAreRead BeginsLoaded }
+    ensures resumed { TransfersAreRead BeginsResumed }
 {}

@@ -7,27 +7,76 @@ use std::alloc::Global;
 #[derive(Clone, Copy)]
 pub enum Task<'a> {
     /// `check FILE ORIGIN`
-    Check(&'a str, &'a str),
+    Check(Checking<'a>),
     /// `check CONFIG`
     CheckConfiguration(&'a str),
     /// `replay CONFIG SCRIPT`
-    Replay(&'a str, &'a str),
+    Replay(Replaying<'a>),
     /// `init CONFIG [ORIGIN]`
-    Init(&'a str, Option<&'a str>),
-    /// `dump CONFIG ORIGIN`, and the serial of the version that is printed (`--serial`)
-    Dump(&'a str, &'a str, Option<u32>),
-    /// `diff CONFIG ORIGIN FROM [TO]`
+    Init(Making<'a>),
+    /// `dump CONFIG ORIGIN [--serial M]`
+    Dump(Dumping<'a>),
+    /// `diff CONFIG ORIGIN FROM [TO] [--as-update]`
     Diff(Diffing<'a>),
-    /// `history CONFIG ORIGIN`, and whether the records of each change are printed (`--records`)
-    History(&'a str, &'a str, bool),
-    /// `load CONFIG ORIGIN`, and whether what it would change is printed alone (`--dry-run`)
-    Load(&'a str, &'a str, bool),
+    /// `history CONFIG ORIGIN [--records]`
+    History(Listing<'a>),
+    /// `load CONFIG ORIGIN [--dry-run]`
+    Load(Loading<'a>),
     /// `migrate CONFIG`
     Migrate(&'a str),
     /// `serve CONFIG --turns N [--quiet]`
     Serve(Serving<'a>),
     /// `fetch ADDRESS:PORT ORIGIN [--since FILE] [--seconds N]`
     Fetch(Fetching<'a>),
+}
+
+/// The words of `check` of a master file.
+#[derive(Clone, Copy)]
+pub struct Checking<'a> {
+    pub file: &'a str,
+    pub origin: &'a str,
+}
+
+/// The words of `replay`.
+#[derive(Clone, Copy)]
+pub struct Replaying<'a> {
+    pub config: &'a str,
+    pub script: &'a str,
+}
+
+/// The words of `init`.
+#[derive(Clone, Copy)]
+pub struct Making<'a> {
+    pub config: &'a str,
+    /// The zone whose device alone is made.
+    pub origin: Option<&'a str>,
+}
+
+/// The words of `dump`.
+#[derive(Clone, Copy)]
+pub struct Dumping<'a> {
+    pub config: &'a str,
+    pub origin: &'a str,
+    /// The serial of the version that is printed, in place of the newest one.
+    pub serial: Option<u32>,
+}
+
+/// The words of `history`.
+#[derive(Clone, Copy)]
+pub struct Listing<'a> {
+    pub config: &'a str,
+    pub origin: &'a str,
+    /// Whether the records of each change are printed.
+    pub records: bool,
+}
+
+/// The words of `load`.
+#[derive(Clone, Copy)]
+pub struct Loading<'a> {
+    pub config: &'a str,
+    pub origin: &'a str,
+    /// Whether what it would change is printed, and nothing loaded.
+    pub dry_run: bool,
 }
 
 /// The words of `diff`: the serials of the versions before and after, and whether the lines of nsupdate that
@@ -342,7 +391,10 @@ fn check_words<'a>(inner: &ArgMatches<'a>) -> Words<'a> {
     };
     let is_config = inner.get_flag("config");
     match inner.get_str("ORIGIN") {
-        Some(origin) if !is_config => task_words(inner, Task::Check(path, origin)),
+        Some(origin) if !is_config => {
+            let checking = Checking { file: path, origin };
+            task_words(inner, Task::Check(checking))
+        }
         None if is_config || path.ends_with(".toml") => {
             task_words(inner, Task::CheckConfiguration(path))
         }
@@ -355,13 +407,19 @@ fn dump_words<'a>(inner: &ArgMatches<'a>) -> Words<'a> {
     let (Some(config), Some(origin)) = (inner.get_str("CONFIG"), inner.get_str("ORIGIN")) else {
         return Words::NoCommand;
     };
-    let Some(text) = inner.get_str("serial") else {
-        return task_words(inner, Task::Dump(config, origin, None));
+    let serial = match inner.get_str("serial") {
+        Some(text) => match number_of(text) {
+            Some(serial) => Some(serial),
+            None => return Words::Wrong(SERIAL_EXPECTED),
+        },
+        None => None,
     };
-    match number_of(text) {
-        Some(serial) => task_words(inner, Task::Dump(config, origin, Some(serial))),
-        None => Words::Wrong(SERIAL_EXPECTED),
-    }
+    let dumping = Dumping {
+        config,
+        origin,
+        serial,
+    };
+    task_words(inner, Task::Dump(dumping))
 }
 
 /// What `diff` is asked for. None if a word is missing or is no number.
@@ -440,18 +498,27 @@ fn task_words<'a>(inner: &ArgMatches<'a>, task: Task<'a>) -> Words<'a> {
 
 /// The task of another subcommand. None if a word is missing.
 fn task_of<'a>(name: &str, inner: &ArgMatches<'a>) -> Option<Task<'a>> {
+    let config = inner.get_str("CONFIG")?;
     match name {
-        "replay" => Some(Task::Replay(inner.get_str("CONFIG")?, inner.get_str("SCRIPT")?)),
-        "init" => Some(Task::Init(inner.get_str("CONFIG")?, inner.get_str("ORIGIN"))),
-        "history" => {
-            let records = inner.get_flag("records");
-            Some(Task::History(inner.get_str("CONFIG")?, inner.get_str("ORIGIN")?, records))
-        }
-        "load" => {
-            let dry_run = inner.get_flag("dry-run");
-            Some(Task::Load(inner.get_str("CONFIG")?, inner.get_str("ORIGIN")?, dry_run))
-        }
-        "migrate" => Some(Task::Migrate(inner.get_str("CONFIG")?)),
+        "replay" => Some(Task::Replay(Replaying {
+            config,
+            script: inner.get_str("SCRIPT")?,
+        })),
+        "init" => Some(Task::Init(Making {
+            config,
+            origin: inner.get_str("ORIGIN"),
+        })),
+        "history" => Some(Task::History(Listing {
+            config,
+            origin: inner.get_str("ORIGIN")?,
+            records: inner.get_flag("records"),
+        })),
+        "load" => Some(Task::Load(Loading {
+            config,
+            origin: inner.get_str("ORIGIN")?,
+            dry_run: inner.get_flag("dry-run"),
+        })),
+        "migrate" => Some(Task::Migrate(config)),
         _ => None,
     }
 }

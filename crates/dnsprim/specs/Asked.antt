@@ -1,0 +1,8 @@
+-- What is asked for.
+use Rattle.std.specs.Prelude.{Bool}
+use Rattle.dnsprim.specs.declared.command.Asked.{Asked}
+use Rattle.dnsprim.specs.declared.command.Task.{Task}
+
+-- This task, with its errors explained or not.
+abbrev pub asked_of : Task → Bool → Asked
+asked_of task explain = record { task = task; explain = explain }

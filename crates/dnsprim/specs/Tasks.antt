@@ -1,0 +1,88 @@
+-- The commands over the files that their words name.
+use Rattle.std.specs.Prelude.{◌≡◌, ◌⊎◌, ℕ, Bool, true, false, List, [], ◌∷◌, map, Option, Some, None, Result, Ok}
+use Rattle.std.specs.Prelude.{Err}
+use Rattle.std.specs.Option.{option_copied}
+use Rattle.std.specs.List.{AllZip}
+use Rattle.dns_sectors.specs.declared.device.Sectors.{Ghosts}
+use Rattle.dns_configuration.specs.declared.files.File.{File}
+use Rattle.dns_devices.specs.DeviceCalls.{DeviceCall}
+use Rattle.dns_service.specs.declared.server.ServeOptions.{ServeOptions}
+use Rattle.dns_commands.specs.Compare.{ComparisonEnds}
+use Rattle.dns_commands.specs.Dump.{DumpEnds}
+use Rattle.dns_commands.specs.DumpAt.{DumpAtEnds}
+use Rattle.dns_commands.specs.Frame.{Ended}
+use Rattle.dns_commands.specs.Inputs.{AreFilesOf, AreFirstOf, Input, IsInput}
+use Rattle.dns_commands.specs.Load.{LoadEnds}
+use Rattle.dnsprim.specs.declared.command.Serving.{Serving}
+
+-- The paths of files that were read, in order.
+abbrev pub paths_of : List Input → List (List ℕ)
+paths_of reads = map (λ (r : Input). r.0) reads
+
+-- The file at this path was read, and no other.
+pub record IsReadAlone (reads : List Input) (path : List ℕ) (file : File) : Type 0 where
+  pub path_is : file.path.now ≡ path
+  pub reads_are : reads ≡ (path, option_copied file.octets) ∷ []
+
+-- The file at this path was read, and of what it holds and the status this is said; or memory for it was
+-- refused.
+abbrev pub ReadsOne : {E : Type 0} → List Input → List ℕ → Result ℕ E → (File → ℕ → Type 0) → Type 0
+ReadsOne reads path (Ok status) P = (file : File) × IsReadAlone reads path file × P file status
+ReadsOne reads path (Err error) P = paths_of reads ≡ path ∷ []
+
+-- The file of a configuration at this path was read, and then the master files that it names, in their order.
+pub record AreRead (reads : List Input) (path : List ℕ) (config : File) (files : List File) : Type 0 where
+  pub texts : List Input
+  pub path_is : config.path.now ≡ path
+  pub reads_are : reads ≡ (path, option_copied config.octets) ∷ texts
+  pub files_are : AllZip IsInput files texts
+  pub named : AreFilesOf (option_copied config.octets) (paths_of texts)
+
+-- The configuration was read, and some of the first of its master files.
+abbrev pub AreFirstRead : List Input → List ℕ → Type 0
+AreFirstRead reads path =
+    (octets : Option (List ℕ)) × (texts : List Input) × (reads ≡ (path, octets) ∷ texts)
+    × AreFirstOf octets texts
+
+-- They were read, and of them and the status this is said; or memory was refused, after the configuration and
+-- some of the first of them.
+abbrev pub ReadsAll : {E : Type 0} → List Input → List ℕ → Result ℕ E → (File → List File → ℕ → Type 0)
+    → Type 0
+ReadsAll reads path (Ok status) P =
+    (config : File) × (files : List File) × AreRead reads path config files × P config files status
+ReadsAll reads path (Err error) P = AreFirstRead reads path
+
+-- First the file of a script was read, and then these; or memory was refused.
+abbrev pub ReadsScript : {E : Type 0} → List Input → List ℕ → List ℕ → Result ℕ E
+    → (File → File → List File → ℕ → Type 0) → Type 0
+ReadsScript reads script path (Ok status) P =
+    (first : File) × (config : File) × (files : List File) × (rest : List Input)
+    × (first.path.now ≡ script) × (reads ≡ (script, option_copied first.octets) ∷ rest)
+    × AreRead rest path config files × P first config files status
+ReadsScript reads script path (Err error) P =
+    (octets : Option (List ℕ)) × (rest : List Input) × (reads ≡ (script, octets) ∷ rest)
+    × ((rest ≡ []) ⊎ AreFirstRead rest path)
+
+-- The file at this path was read, if a path is given, and of it and the status this is said; or memory for it
+-- was refused.
+abbrev pub ReadsSince : {E : Type 0} → List Input → Option (List ℕ) → Result ℕ E
+    → (Option File → ℕ → Type 0) → Type 0
+ReadsSince reads None (Ok status) P = (reads ≡ []) × P None status
+ReadsSince reads (Some path) (Ok status) P =
+    (file : File) × IsReadAlone reads path file × P (Some file) status
+ReadsSince reads None (Err error) P = reads ≡ []
+ReadsSince reads (Some path) (Err error) P = paths_of reads ≡ path ∷ []
+
+-- `dump` ends so, with a serial or without one.
+abbrev pub Dumps : {D : Type 0} → Ghosts D → File → List ℕ → Option ℕ → Ended (DeviceCall D) → Type 0
+Dumps g config origin None = DumpEnds g config origin
+Dumps g config origin (Some serial) = DumpAtEnds g config origin serial
+
+-- `load` ends so, if only the difference is printed or not.
+abbrev pub Loads : {D : Type 0} → Ghosts D → File → List File → List ℕ → Bool → Ended (DeviceCall D) → Type 0
+Loads g config files origin true = ComparisonEnds g config files origin
+Loads g config files origin false = LoadEnds g config files origin
+
+-- The options of `serve`, by its words.
+abbrev pub options_of : Serving → Bool → ServeOptions
+options_of words explain = record { turns = words.turns; is_quiet = words.quiet; explain = explain }

@@ -1,0 +1,324 @@
+//! The commands, each over the files that its words name.
+ghost use Rattle.std.specs.Prelude.{◌≡◌, map, IfOk};
+ghost use Rattle.std.specs.Option.{option_copied};
+ghost use Rattle.std.specs.List.{AllZip};
+ghost use Rattle.dns_configuration.specs.Calls.{Calls};
+ghost use Rattle.dns_commands.specs.Check.{CheckEnds};
+ghost use Rattle.dns_commands.specs.CheckConfiguration.{ConfigurationCheckEnds};
+ghost use Rattle.dns_commands.specs.Diff.{DiffEnds};
+ghost use Rattle.dns_commands.specs.Frame.{RunEnds};
+ghost use Rattle.dns_commands.specs.History.{HistoryEnds};
+ghost use Rattle.dns_commands.specs.Init.{InitEnds};
+ghost use Rattle.dns_commands.specs.Inputs.{IsInput, inputs_of};
+ghost use Rattle.dns_commands.specs.Migrate.{MigrateEnds};
+ghost use Rattle.dns_commands.specs.Replay.{ReplayEnds};
+ghost use Rattle.dns_fetch.specs.Connecting.{ConnectsOnce, IsReached};
+ghost use Rattle.dns_fetch.specs.Fetch.{FetchEnds};
+ghost use Rattle.dns_service.specs.Serve.{ServingEnds};
+ghost use Rattle.dnsprim.specs.Tasks.{Dumps, Loads, ReadsAll, ReadsOne, ReadsScript, ReadsSince, options_of};
+
+use crate::command::{
+    Checking, Diffing, Dumping, Fetching, Listing, Loading, Making, Replaying, Serving,
+};
+use dns_commands::{
+    Index, Inputs, Run, check, check_configuration, compare, diff, dump, dump_at, file, history,
+    init, load, master_files, migrate, replay,
+};
+use dns_configuration::File;
+use dns_devices::{Devices, NewDevices};
+use dns_fetch::{Servers, WaitingStream, Watch, fetch};
+use dns_memory::Heap;
+use dns_replay::ScriptDevice;
+use dns_sectors::{MemorySectors, Sectors};
+use dns_service::{ServeOptions, serve};
+use std::alloc::{AllocError, Global};
+use std::io::{self, Write};
+use std::net::Net;
+use std::time::Clock;
+
+/// Files as they were read, each with its path.
+pub fn files_in(
+    alloc: Global,
+    texts: &[(String, Option<Vec<u8>>)],
+) -> Result<Vec<File<'_>>, AllocError>
+    ensures { IfOk result (λ files. AllZip IsInput files.items (inputs_of texts.now)) }
+{
+    let mut files = Vec::new(alloc);
+    for (path, text) in texts {
+        files.push(file(path, text))?;
+    }
+    Ok(files)
+}
+
+/// Checks a master file, and returns the exit status.
+pub fn check_file<N: Inputs, W: Write, E: Write>(
+    inputs: &mut N,
+    run: &mut Run<(), W, E>,
+    words: Checking<'_>,
+) -> io::Result<u8>
+    ensures { Calls (N.reads inputs.old) (N.reads inputs.new) (λ reads.
+        ReadsOne reads words.entry.file.now result (λ file status.
+        CheckEnds (option_copied file.octets) file.path.now words.entry.origin.now (W.contents run.old.out)
+        (W.contents run.new.out) (E.contents run.old.err) (E.contents run.new.err) status)) }
+{
+    let text = inputs.octets(words.file)?;
+    let file = file(words.file, &text);
+    Ok(check(run.heap, &file, words.origin, &mut run.out, &mut run.err))
+}
+
+/// Checks a configuration and its master files, and returns the exit status.
+pub fn check_files<N: Inputs, W: Write, E: Write>(
+    inputs: &mut N,
+    run: &mut Run<(), W, E>,
+    config: &str,
+) -> io::Result<u8>
+    ensures { Calls (N.reads inputs.old) (N.reads inputs.new) (λ reads.
+        ReadsAll reads config.now result (λ config files status.
+        ConfigurationCheckEnds config files run.old.explain (W.contents run.old.out)
+        (W.contents run.new.out) (E.contents run.old.err) (E.contents run.new.err) status)) }
+{
+    let text = inputs.octets(config)?;
+    let config = file(config, &text);
+    let texts = master_files(run.alloc, run.heap, inputs, &config)?;
+    let files = files_in(run.alloc, &texts)?;
+    Ok(check_configuration::<Index, W, E>(
+        run.alloc,
+        run.heap,
+        &config,
+        &files,
+        run.explain,
+        &mut run.out,
+        &mut run.err,
+    ))
+}
+
+/// Runs a script over the zones of a configuration, and returns the exit status.
+pub fn replay_files<N: Inputs, W: Write, E: Write>(
+    inputs: &mut N,
+    run: &mut Run<(), W, E>,
+    words: Replaying<'_>,
+) -> io::Result<u8>
+    ensures { Calls (N.reads inputs.old) (N.reads inputs.new) (λ reads.
+        ReadsScript reads words.entry.script.now words.entry.config.now result (λ script config files status.
+        ReplayEnds ⟦<MemorySectors as Sectors>⟧ ⟦<MemorySectors as ScriptDevice>⟧.left_by config files
+        script (W.contents run.old.out) (W.contents run.new.out) (E.contents run.old.err)
+        (E.contents run.new.err) status)) }
+{
+    let script_text = inputs.octets(words.script)?;
+    let script = file(words.script, &script_text);
+    let text = inputs.octets(words.config)?;
+    let config = file(words.config, &text);
+    let texts = master_files(run.alloc, run.heap, inputs, &config)?;
+    let files = files_in(run.alloc, &texts)?;
+    Ok(replay(
+        run.alloc,
+        run.heap,
+        &config,
+        &files,
+        &script,
+        &mut run.out,
+        &mut run.err,
+    ))
+}
+
+/// Makes devices, and returns the exit status.
+pub fn init_files<N: Inputs, D: Sectors + Drop, F: NewDevices<D>, W: Write, E: Write>(
+    inputs: &mut N,
+    run: &mut Run<F, W, E>,
+    words: Making<'_>,
+) -> io::Result<u8>
+    ensures { Calls (N.reads inputs.old) (N.reads inputs.new) (λ reads.
+        ReadsAll reads words.entry.config.now result (λ config files status.
+        RunEnds F.calls W.contents E.contents run.old run.new status
+        (InitEnds D.Sectors config (option_copied words.entry.origin) files))) }
+{
+    let text = inputs.octets(words.config)?;
+    let config = file(words.config, &text);
+    let texts = master_files(run.alloc, run.heap, inputs, &config)?;
+    let files = files_in(run.alloc, &texts)?;
+    Ok(init::<D, F, Index, W, E>(run, &config, words.origin, &files))
+}
+
+/// Prints what a device keeps, as it is or as it was at a serial, and returns the exit status.
+pub fn dump_file<N: Inputs, D: Sectors + Drop, F: Devices<D>, W: Write, E: Write>(
+    inputs: &mut N,
+    run: &mut Run<F, W, E>,
+    words: Dumping<'_>,
+) -> io::Result<u8>
+    ensures { Calls (N.reads inputs.old) (N.reads inputs.new) (λ reads.
+        ReadsOne reads words.entry.config.now result (λ config status.
+        RunEnds F.calls W.contents E.contents run.old run.new status
+        (Dumps D.Sectors config words.entry.origin.now words.entry.serial))) }
+{
+    let text = inputs.octets(words.config)?;
+    let config = file(words.config, &text);
+    Ok(match words.serial {
+        Some(serial) => dump_at::<D, F, Index, W, E>(run, &config, words.origin, serial),
+        None => dump::<D, F, Index, W, E>(run, &config, words.origin),
+    })
+}
+
+/// Prints the difference of two versions that a device keeps, and returns the exit status.
+pub fn diff_file<N: Inputs, D: Sectors + Drop, F: Devices<D>, W: Write, E: Write>(
+    inputs: &mut N,
+    run: &mut Run<F, W, E>,
+    words: Diffing<'_>,
+) -> io::Result<u8>
+    ensures { Calls (N.reads inputs.old) (N.reads inputs.new) (λ reads.
+        ReadsOne reads words.entry.config.now result (λ config status.
+        RunEnds F.calls W.contents E.contents run.old run.new status
+        (DiffEnds D.Sectors config words.entry.origin.now words.entry.from words.entry.to
+        words.entry.as_update))) }
+{
+    let text = inputs.octets(words.config)?;
+    let config = file(words.config, &text);
+    Ok(diff::<D, F, Index, W, E>(
+        run,
+        &config,
+        words.origin,
+        words.from,
+        words.to,
+        words.as_update,
+    ))
+}
+
+/// Prints the versions that a device keeps, and returns the exit status.
+pub fn history_file<N: Inputs, D: Sectors + Drop, F: Devices<D>, W: Write, E: Write>(
+    inputs: &mut N,
+    run: &mut Run<F, W, E>,
+    words: Listing<'_>,
+) -> io::Result<u8>
+    ensures { Calls (N.reads inputs.old) (N.reads inputs.new) (λ reads.
+        ReadsOne reads words.entry.config.now result (λ config status.
+        RunEnds F.calls W.contents E.contents run.old run.new status
+        (HistoryEnds D.Sectors config words.entry.origin.now words.entry.records))) }
+{
+    let text = inputs.octets(words.config)?;
+    let config = file(words.config, &text);
+    Ok(history::<D, F, Index, W, E>(run, &config, words.origin, words.records))
+}
+
+/// Loads a zone's master file, or prints what that would change, and returns the exit status.
+pub fn load_files<N: Inputs, D: Sectors + Drop, F: Devices<D>, W: Write, E: Write>(
+    inputs: &mut N,
+    run: &mut Run<F, W, E>,
+    words: Loading<'_>,
+) -> io::Result<u8>
+    ensures { Calls (N.reads inputs.old) (N.reads inputs.new) (λ reads.
+        ReadsAll reads words.entry.config.now result (λ config files status.
+        RunEnds F.calls W.contents E.contents run.old run.new status
+        (Loads D.Sectors config files words.entry.origin.now words.entry.dry_run))) }
+{
+    let text = inputs.octets(words.config)?;
+    let config = file(words.config, &text);
+    let texts = master_files(run.alloc, run.heap, inputs, &config)?;
+    let files = files_in(run.alloc, &texts)?;
+    Ok(match words.dry_run {
+        true => compare::<D, F, Index, W, E>(run, &config, &files, words.origin),
+        false => load::<D, F, Index, W, E>(run, &config, &files, words.origin),
+    })
+}
+
+/// Migrates devices, and returns the exit status.
+pub fn migrate_file<N: Inputs, D: Sectors + Drop, F: Devices<D>, W: Write, E: Write>(
+    inputs: &mut N,
+    run: &mut Run<F, W, E>,
+    config: &str,
+) -> io::Result<u8>
+    ensures { Calls (N.reads inputs.old) (N.reads inputs.new) (λ reads.
+        ReadsOne reads config.now result (λ config status.
+        RunEnds F.calls W.contents E.contents run.old run.new status (MigrateEnds D.Sectors config))) }
+{
+    let text = inputs.octets(config)?;
+    Ok(migrate::<D, F, Index, W, E>(run, &file(config, &text)))
+}
+
+/// Serves, and returns the exit status.
+pub fn serve_file<N: Inputs, D: Sectors + Drop, F: Devices<D>, R: Net + Clock, E: Write>(
+    rt: &R,
+    inputs: &mut N,
+    run: &mut Run<F, (), E>,
+    words: Serving<'_>,
+) -> io::Result<u8>
+    ensures { Calls (N.reads inputs.old) (N.reads inputs.new) (λ reads.
+        ReadsOne reads words.entry.config.now result (λ config status.
+        Calls (F.calls run.old.devices) (F.calls run.new.devices) (λ calls.
+        ServingEnds D.Sectors calls config (options_of words.entry run.old.explain)
+        (E.contents run.old.err) (E.contents run.new.err) status))) }
+{
+    let text = inputs.octets(words.config)?;
+    let options = ServeOptions {
+        turns: words.turns,
+        is_quiet: words.quiet,
+        explain: run.explain,
+    };
+    Ok(serve::<D, F, Index, R, E>(
+        run.alloc,
+        run.heap,
+        rt,
+        &mut run.devices,
+        &file(words.config, &text),
+        options,
+        &mut run.err,
+    ))
+}
+
+/// What `fetch` runs with: memory, servers by their addresses, what is told while it waits, and where it
+/// prints and reports.
+#[derive(Drop)]
+pub struct FetchRun<V, P, W, E> {
+    pub heap: Heap,
+    pub servers: V,
+    /// Whether a second line of an error says what can be done.
+    pub explain: bool,
+    pub watch: P,
+    pub out: W,
+    pub err: E,
+}
+
+/// Takes a zone in from another server, and returns the exit status.
+pub fn fetch_zone<N: Inputs, S: WaitingStream + Drop, V: Servers<S>, P: Watch, W: Write, E: Write>(
+    inputs: &mut N,
+    run: &mut FetchRun<V, P, W, E>,
+    words: Fetching<'_>,
+) -> io::Result<u8>
+    ensures { Calls (N.reads inputs.old) (N.reads inputs.new) (λ reads.
+        ReadsSince reads (option_copied words.entry.since) result (λ since status.
+        Calls (V.calls run.old.servers) (V.calls run.new.servers) (λ calls.
+        ConnectsOnce words.entry.server.now calls
+        × FetchEnds S.Stream (IsReached calls) words.entry.server.now words.entry.origin.now since
+        run.old.explain (W.contents run.old.out) (W.contents run.new.out) (E.contents run.old.err)
+        (E.contents run.new.err) status))) }
+{
+    let Some(path) = words.since else {
+        return Ok(fetch_from::<S, V, P, W, E>(run, words, None));
+    };
+    let text = inputs.octets(path)?;
+    let held = file(path, &text);
+    Ok(fetch_from::<S, V, P, W, E>(run, words, Some(&held)))
+}
+
+/// Takes a zone in, of which this file holds an older version, and returns the exit status.
+fn fetch_from<S: WaitingStream + Drop, V: Servers<S>, P: Watch, W: Write, E: Write>(
+    run: &mut FetchRun<V, P, W, E>,
+    words: Fetching<'_>,
+    since: Option<&File<'_>>,
+) -> u8
+    ensures { Calls (V.calls run.old.servers) (V.calls run.new.servers) (λ calls.
+        ConnectsOnce words.entry.server.now calls
+        × FetchEnds S.Stream (IsReached calls) words.entry.server.now words.entry.origin.now
+        (option_copied since.entry) run.old.explain (W.contents run.old.out) (W.contents run.new.out)
+        (E.contents run.old.err) (E.contents run.new.err) result) }
+{
+    fetch::<S, V, Index, P, W, E>(
+        run.heap,
+        &mut run.servers,
+        words.server,
+        words.origin,
+        since,
+        run.explain,
+        &mut run.watch,
+        &mut run.out,
+        &mut run.err,
+    )
+}
