@@ -13,7 +13,7 @@ _dnsprim_options() {
         dump) echo --serial --explain --help ;;
         diff) echo --as-update --explain --help ;;
         history) echo --records --explain --help ;;
-        init | migrate | replay) echo --explain --help ;;
+        init | migrate | replay | verify) echo --explain --help ;;
     esac
 }
 
@@ -34,7 +34,7 @@ _dnsprim_arguments() {
 
 # What may stand at the cursor: words, or a mark that these are files.
 _dnsprim_words() {
-    local commands="check diff dump fetch help history init load migrate replay serve"
+    local commands="check diff dump fetch help history init load migrate replay serve verify"
     case $previous,$current in
         --since,*) echo :files && return ;;
         --turns,*) echo unlimited && return ;;
@@ -44,8 +44,8 @@ _dnsprim_words() {
     case $current,$command,${#arguments[@]} in
         -*) _dnsprim_options "$command" ;;
         *,help,0) echo "$commands" ;;
-        *,check,0 | *,diff,0 | *,dump,0 | *,history,0 | *,init,0 | *,load,0 | *,migrate,0 | *,replay,[01] | *,serve,0) echo :files ;;
-        *,diff,1 | *,dump,1 | *,history,1 | *,init,1 | *,load,1) _dnsprim_origins "${arguments[0]}" ;;
+        *,check,0 | *,diff,0 | *,dump,0 | *,history,0 | *,init,0 | *,load,0 | *,migrate,0 | *,replay,[01] | *,serve,0 | *,verify,0) echo :files ;;
+        *,diff,1 | *,dump,1 | *,history,1 | *,init,1 | *,load,1 | *,verify,1) _dnsprim_origins "${arguments[0]}" ;;
         *,check,1 | *,diff,[23] | *,fetch,[01]) ;;
         *) _dnsprim_options "$command" ;;
     esac

@@ -1,15 +1,13 @@
 -- The messages of a transfer that is opened in a run are read as they were meant.
 use Rattle.std.proofs.Common.{◌≡◌, ◌++◌, ◌<◌, ◌≤◌, ◌^◌, ℕ, Bool, List, [], ◌∷◌, length, Option, Some, None, refl, sym, ap, subst, ◌∙◌}
 use Rattle.std.specs.Prelude.{IfSome}
-use Rattle.std.specs.List.{AllByRecursion, flat_map}
+use Rattle.std.specs.List.{AllByRecursion}
 use Rattle.dns_records.specs.Record.{Record, IsRecord}
-use Rattle.dns_changes.specs.Change.{Change}
 use Rattle.dns_wire.specs.Compressed.{IsCompressed}
-use Rattle.dns_wire.specs.Message.{Message, Header, header_of}
-use Rattle.dns_wire.specs.Echo.{echo_of}
+use Rattle.dns_wire.specs.Message.{Header}
 use Rattle.dns_wire.specs.Reads.{Reads}
 use Rattle.dns_wire.specs.Reading.{message_of}
-use Rattle.dns_wire.specs.Text.{EchoedQuestion, Reply, text}
+use Rattle.dns_wire.specs.Text.{EchoedQuestion, Reply}
 use Rattle.dns_wire.specs.Valid.{IsEchoed, IsReply, message_of_reply}
 use Rattle.dns_wire.proofs.QuestionsSent.{id_fits, echoed}
 use Rattle.dns_wire.proofs.ReadsBack.{reads_back}
@@ -22,10 +20,9 @@ use Rattle.dns_transfer.specs.Messages.{Heading, IsNextMessage, message_with}
 use Rattle.dns_transfer.specs.Refusal.{client_serial, serial_asked}
 use Rattle.dns_transfer.specs.Session.{Sending, SendsBy}
 use Rattle.dns_update.proofs.Accepted.{as_octets}
-use Rattle.dns_versions.specs.Each.{Each2}
 use Rattle.dns_store.specs.Versions.{shown_of}
-use Rattle.dns_primary.specs.Machine.{ZoneState, Machine, kept_of, shown_zones, sending_at}
-use Rattle.dns_primary.specs.Step.{Event, Arrives, Effects, Step}
+use Rattle.dns_primary.specs.Machine.{Machine, kept_of, shown_zones, sending_at}
+use Rattle.dns_primary.specs.Step.{Arrives, Effects, Step}
 use Rattle.dns_primary.specs.Continues.{OpensOn, Continues}
 use Rattle.dns_primary.specs.Runs.{Moment, Took, Run, last_of, Continuation}
 use Rattle.dns_primary.proofs.Continued.{run_goes, step_opened}

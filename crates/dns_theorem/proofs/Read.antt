@@ -1,7 +1,6 @@
 -- The message of a request is what its octets read as.
-use Rattle.std.proofs.Common.{◌≡◌, ℕ, Bool, true, false, not, ◌&&◌, ◌||◌, List, [], ◌∷◌, Option, Some, None, length, refl, subst, ◌∙◌}
+use Rattle.std.proofs.Common.{◌≡◌, ℕ, Bool, true, false, not, ◌||◌, List, [], ◌∷◌, Option, Some, None, length, refl, subst}
 use Rattle.std.specs.Prelude.{◌==◌, nat_lt, if◌then◌else◌}
-use Rattle.std.specs.List.{AllByRecursion}
 use Rattle.dns_zone.specs.Zone.{Zone}
 use Rattle.dns_records.specs.Types.{type_ixfr, type_axfr, type_mailb, type_maila, class_in}
 use Rattle.dns_wire.specs.Message.{Question, Message, header_of}

@@ -24,6 +24,8 @@ pub enum Task<'a> {
     Load(Loading<'a>),
     /// `migrate CONFIG`
     Migrate(&'a str),
+    /// `verify CONFIG [ORIGIN]`
+    Verify(Verifying<'a>),
     /// `serve CONFIG --turns N [--quiet]`
     Serve(Serving<'a>),
     /// `fetch ADDRESS:PORT ORIGIN [--since FILE] [--seconds N]`
@@ -77,6 +79,14 @@ pub struct Loading<'a> {
     pub origin: &'a str,
     /// Whether what it would change is printed, and nothing loaded.
     pub dry_run: bool,
+}
+
+/// The words of `verify`.
+#[derive(Clone, Copy)]
+pub struct Verifying<'a> {
+    pub config: &'a str,
+    /// The zone whose device alone is read.
+    pub origin: Option<&'a str>,
 }
 
 /// The words of `diff`: the serials of the versions before and after, and whether the lines of nsupdate that
@@ -297,6 +307,16 @@ fn migrate_command<'a>(alloc: Global) -> Result<Command<'a>, Error> {
     of_one_word(alloc, "migrate", about, config(alloc))
 }
 
+fn verify_command<'a>(alloc: Global) -> Result<Command<'a>, Error> {
+    let about =
+        "Reads the device of each zone and tells what a start would find; it writes nothing";
+    let command = of_one_word(alloc, "verify", about, config(alloc))?;
+    let origin = Arg::new(alloc, "ORIGIN").action(ArgAction::Set).help(
+        "The name of one zone's apex, as example.: its device alone is read",
+    );
+    Ok(command.arg(origin)?)
+}
+
 fn serve_command<'a>(alloc: Global) -> Result<Command<'a>, Error> {
     let about =
         "Answers queries and takes updates, by UDP and TCP; an update is durable before it is answered";
@@ -364,6 +384,7 @@ fn whole_command<'a>(alloc: Global) -> Result<Command<'a>, Error> {
     let command = with(command, history_command(alloc))?;
     let command = with(command, load_command(alloc))?;
     let command = with(command, migrate_command(alloc))?;
+    let command = with(command, verify_command(alloc))?;
     let command = with(command, serve_command(alloc))?;
     with(command, fetch_command(alloc))
 }
@@ -519,6 +540,10 @@ fn task_of<'a>(name: &str, inner: &ArgMatches<'a>) -> Option<Task<'a>> {
             dry_run: inner.get_flag("dry-run"),
         })),
         "migrate" => Some(Task::Migrate(config)),
+        "verify" => Some(Task::Verify(Verifying {
+            config,
+            origin: inner.get_str("ORIGIN"),
+        })),
         _ => None,
     }
 }

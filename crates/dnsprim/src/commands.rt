@@ -6,7 +6,8 @@ ghost use Rattle.dnsprim.specs.declared.command.Asked.{Asked as StatedAsked};
 ghost use Rattle.dnsprim.specs.declared.command.Task.TheVariants as task;
 
 use crate::command::{
-    Asked, Checking, Diffing, Dumping, Fetching, Listing, Loading, Making, Replaying, Serving, Task,
+    Asked, Checking, Diffing, Dumping, Fetching, Listing, Loading, Making, Replaying, Serving,
+    Task, Verifying,
 };
 use std::io;
 
@@ -43,6 +44,9 @@ pub trait Commands {
     fn migrate(&mut self, config: &str, explain: bool) -> io::Result<u8>
         ensures { has_run self.old (asked_of (task.Migrate config.entry) explain) result self.new };
 
+    fn verify(&mut self, words: Verifying<'_>, explain: bool) -> io::Result<u8>
+        ensures { has_run self.old (asked_of (task.Verify words.entry) explain) result self.new };
+
     fn serve(&mut self, words: Serving<'_>, explain: bool) -> io::Result<u8>
         ensures { has_run self.old (asked_of (task.Serve words.entry) explain) result self.new };
 
@@ -65,6 +69,7 @@ pub fn run<C: Commands>(commands: &mut C, asked: Asked<'_>) -> io::Result<u8>
         Task::History(words) => commands.history(words, explain),
         Task::Load(words) => commands.load(words, explain),
         Task::Migrate(config) => commands.migrate(config, explain),
+        Task::Verify(words) => commands.verify(words, explain),
         Task::Serve(words) => commands.serve(words, explain),
         Task::Fetch(words) => commands.fetch(words, explain),
     }

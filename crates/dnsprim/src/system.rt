@@ -1,14 +1,14 @@
 //! The commands over the system: its files, its sockets and its streams.
 
 use crate::command::{
-    Checking, Diffing, Dumping, Fetching, Listing, Loading, Making, Replaying, Serving,
+    Checking, Diffing, Dumping, Fetching, Listing, Loading, Making, Replaying, Serving, Verifying,
 };
 use crate::commands::Commands;
 use crate::explaining::Explainer;
 use crate::lines::Lines;
 use crate::tasks::{
     FetchRun, check_file, check_files, diff_file, dump_file, fetch_zone, history_file, init_files,
-    load_files, migrate_file, replay_files, serve_file,
+    load_files, migrate_file, replay_files, serve_file, verify_file,
 };
 use crate::terminal::Terminal;
 use dns_commands::{Folder, Run};
@@ -180,6 +180,26 @@ impl Commands for System<'_> {
         }
         if explain && status == FAILED {
             self.explainer().devices(config, None)?;
+        }
+        Ok(status)
+    }
+
+    fn verify(&mut self, words: Verifying<'_>, explain: bool) -> io::Result<u8> {
+        let mut run = self.run(
+            explain,
+            Disk(self.rt),
+            io::writer(self.rt),
+            self.rt.stderr(),
+        );
+        let status = verify_file::<_, Device, _, _, _>(&mut self.files(), &mut run, words)?;
+        if explain && status == REFUSED {
+            match words.origin {
+                Some(origin) => self.explainer().origin(words.config, origin)?,
+                None => self.explainer().configuration(words.config)?,
+            }
+        }
+        if explain && status == FAILED {
+            self.explainer().devices(words.config, words.origin)?;
         }
         Ok(status)
     }

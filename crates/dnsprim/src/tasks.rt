@@ -12,20 +12,21 @@ ghost use Rattle.dns_commands.specs.Init.{InitEnds};
 ghost use Rattle.dns_commands.specs.Inputs.{IsInput, inputs_of};
 ghost use Rattle.dns_commands.specs.Migrate.{MigrateEnds};
 ghost use Rattle.dns_commands.specs.Replay.{ReplayEnds};
+ghost use Rattle.dns_commands.specs.Verify.{VerifyEnds};
 ghost use Rattle.dns_fetch.specs.Connecting.{ConnectsOnce, IsReached};
 ghost use Rattle.dns_fetch.specs.Fetch.{FetchEnds};
 ghost use Rattle.dns_service.specs.Serve.{ServingEnds};
 ghost use Rattle.dnsprim.specs.Tasks.{Dumps, Loads, ReadsAll, ReadsOne, ReadsScript, ReadsSince, options_of};
 
 use crate::command::{
-    Checking, Diffing, Dumping, Fetching, Listing, Loading, Making, Replaying, Serving,
+    Checking, Diffing, Dumping, Fetching, Listing, Loading, Making, Replaying, Serving, Verifying,
 };
 use dns_commands::{
     Index, Inputs, Run, check, check_configuration, compare, diff, dump, dump_at, file, history,
-    init, load, master_files, migrate, replay,
+    init, load, master_files, migrate, replay, verify,
 };
 use dns_configuration::File;
-use dns_devices::{Devices, NewDevices};
+use dns_devices::{Devices, DevicesToRead, NewDevices};
 use dns_fetch::{Servers, WaitingStream, Watch, fetch};
 use dns_memory::Heap;
 use dns_replay::ScriptDevice;
@@ -231,6 +232,22 @@ pub fn migrate_file<N: Inputs, D: Sectors + Drop, F: Devices<D>, W: Write, E: Wr
 {
     let text = inputs.octets(config)?;
     Ok(migrate::<D, F, Index, W, E>(run, &file(config, &text)))
+}
+
+/// Reads devices, tells what a start would find, and returns the exit status.
+pub fn verify_file<N: Inputs, D: Sectors + Drop, F: DevicesToRead<D>, W: Write, E: Write>(
+    inputs: &mut N,
+    run: &mut Run<F, W, E>,
+    words: Verifying<'_>,
+) -> io::Result<u8>
+    ensures { Calls (N.reads inputs.old) (N.reads inputs.new) (λ reads.
+        ReadsOne reads words.entry.config.now result (λ config status.
+        RunEnds F.calls W.contents E.contents run.old run.new status
+        (VerifyEnds D.Sectors config (option_copied words.entry.origin)))) }
+{
+    let text = inputs.octets(words.config)?;
+    let config = file(words.config, &text);
+    Ok(verify::<D, F, Index, W, E>(run, &config, words.origin))
 }
 
 /// Serves, and returns the exit status.
