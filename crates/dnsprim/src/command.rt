@@ -24,7 +24,7 @@ pub enum Task<'a> {
     Load(Loading<'a>),
     /// `migrate CONFIG`
     Migrate(&'a str),
-    /// `verify CONFIG [ORIGIN]`
+    /// `verify CONFIG [ORIGIN] [--every-sector]`
     Verify(Verifying<'a>),
     /// `serve CONFIG --turns N [--quiet]`
     Serve(Serving<'a>),
@@ -87,6 +87,8 @@ pub struct Verifying<'a> {
     pub config: &'a str,
     /// The zone whose device alone is read.
     pub origin: Option<&'a str>,
+    /// Whether the digests of all sectors are tested, and not only of those that a start reads.
+    pub every_sector: bool,
 }
 
 /// The words of `diff`: the serials of the versions before and after, and whether the lines of nsupdate that
@@ -314,7 +316,11 @@ fn verify_command<'a>(alloc: Global) -> Result<Command<'a>, Error> {
     let origin = Arg::new(alloc, "ORIGIN").action(ArgAction::Set).help(
         "The name of one zone's apex, as example.: its device alone is read",
     );
-    Ok(command.arg(origin)?)
+    let every_sector = Arg::new(alloc, "every-sector")
+        .long("every-sector")
+        .action(ArgAction::SetTrue)
+        .help("Tests all sectors, and lists each that is damaged, whether a start reads it or not");
+    Ok(command.arg(origin)?.arg(every_sector)?)
 }
 
 fn serve_command<'a>(alloc: Global) -> Result<Command<'a>, Error> {
@@ -543,6 +549,7 @@ fn task_of<'a>(name: &str, inner: &ArgMatches<'a>) -> Option<Task<'a>> {
         "verify" => Some(Task::Verify(Verifying {
             config,
             origin: inner.get_str("ORIGIN"),
+            every_sector: inner.get_flag("every-sector"),
         })),
         _ => None,
     }

@@ -25,7 +25,7 @@ fn tell_usage(rt: &HostRuntime) -> io::Result<u8> {
         "usage: dnsprim check FILE ORIGIN | check CONFIG | replay CONFIG SCRIPT | init CONFIG [ORIGIN] | \
 dump CONFIG ORIGIN [--serial M] | diff CONFIG ORIGIN FROM [TO] [--as-update] | \
 history CONFIG ORIGIN [--records] | load CONFIG ORIGIN [--dry-run] | migrate CONFIG | \
-verify CONFIG [ORIGIN] | \
+verify CONFIG [ORIGIN] [--every-sector] | \
 serve CONFIG --turns N|unlimited [--quiet] | \
 fetch ADDRESS:PORT ORIGIN [--since FILE] [--seconds N] [--explain]"
     )?;

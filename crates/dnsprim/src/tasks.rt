@@ -243,11 +243,11 @@ pub fn verify_file<N: Inputs, D: Sectors + Drop, F: DevicesToRead<D>, W: Write, 
     ensures { Calls (N.reads inputs.old) (N.reads inputs.new) (λ reads.
         ReadsOne reads words.entry.config.now result (λ config status.
         RunEnds F.calls W.contents E.contents run.old run.new status
-        (VerifyEnds D.Sectors config (option_copied words.entry.origin)))) }
+        (VerifyEnds D.Sectors config (option_copied words.entry.origin) words.entry.every_sector))) }
 {
     let text = inputs.octets(words.config)?;
     let config = file(words.config, &text);
-    Ok(verify::<D, F, Index, W, E>(run, &config, words.origin))
+    Ok(verify::<D, F, Index, W, E>(run, &config, words.origin, words.every_sector))
 }
 
 /// Serves, and returns the exit status.
