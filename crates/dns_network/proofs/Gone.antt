@@ -1,5 +1,5 @@
 -- Connections that are unused or stalled are gone after they were visited.
-use Rattle.std.proofs.Common.{◌≡◌, ◌⊎◌, inl, inr, ℕ, zero, suc, ◌+◌, ◌<◌, ◌≤◌, Bool, false, List, [], ◌∷◌, ◌++◌, length, Option, Some, None, refl, ap, sym, subst, ◌∙◌, arith}
+use Rattle.std.proofs.Common.{◌≡◌, ◌⊎◌, inl, inr, ℕ, zero, suc, ◌+◌, ◌<◌, ◌≤◌, Bool, false, List, [], ◌∷◌, ◌++◌, length, Option, Some, None, refl, ap, sym, subst, arith}
 use Rattle.std.specs.Prelude.{slice_get}
 use Rattle.dns_zone.specs.declared.index.ZoneIndex as index
 use Rattle.dns_store.specs.declared.zone_store.ZoneStore as store
@@ -8,7 +8,6 @@ use Rattle.dns_primary.specs.Keeps.{IsKept}
 use Rattle.dns_primary.specs.Step.{Event, Datagram, Connect, Arrives, Flush, Checkpoint, Pump, Closed}
 use Rattle.dns_network.specs.declared.connection.Connection.{Connection}
 use Rattle.dns_network.specs.declared.network.Network.{Ghosts}
-use Rattle.dns_network.specs.declared.network.Note.TheVariants as note
 use Rattle.dns_network.specs.declared.network.Notes as notes
 use Rattle.dns_network.specs.declared.stream.Stream as stream
 use Rattle.dns_network.specs.Closing.{Cause, HasEnded, Silent, Stalled, NoMemory, NoPlace, StalledAreGone, UnusedAreGone}
@@ -71,9 +70,9 @@ module _ {I D S N L : Type 0} {i : index.Ghosts I} {d : store.Ghosts D} (s : str
     moment_is : (one : TurnMoment) (old new : Served I D S N L i d) → IsMoment s n l now one old new → Is known number old.connections
         → Is known number new.connections
     moment_is Asks old new h is = same_is old new (ap places h.rest) is
-    moment_is (Moves target) old new h is =
+    moment_is (Moves target answer) old new h is =
         subst (Is known number) (sym (ap places h.rest))
-        (set_stays known number target old.connections h.before h.after h.there (λ k. lasts.moved h.before h.after h.moved k) is)
+        (set_stays known number target old.connections h.before h.after h.there (λ k. lasts.moved h.before h.after h.on.moved k) is)
     moment_is (Connects peer effects) old new h is =
         placed_stays n s now known lasts number h.stream effects.accepted h.asked new.network old.connections new.connections h.taken.placed is
     moment_is (Refuses peer) old new h is = same_is old new (ap places h.rest) is

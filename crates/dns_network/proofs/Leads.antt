@@ -149,12 +149,12 @@ module _ {I D S N L : Type 0} {i : index.Ghosts I} {d : store.Ghosts D} (s : str
     flush = inr (effects, goings, refl);
   }
 
-  -- octets may have moved on a connection
+  -- a connection was read or written
   pub moves : (number : ℕ) (moved : Moved) (primary : Primary I D i d) (network : N) (notes : L) (old new : List (Option (Connection S)))
       → HasBecome (MovesOn s now moved) number old new
-      → IsMoment s n l now (Moves number) (standing primary network notes old) (standing primary network notes new)
+      → IsMoment s n l now (Moves number moved) (standing primary network notes old) (standing primary network notes new)
   moves number moved primary network notes old new (c, e, there, on, is) =
-      record { before = c; after = e; there = there; moved = on.moved; rest = ap (standing primary network notes) is }
+      record { before = c; after = e; there = there; on = on; rest = ap (standing primary network notes) is }
 
   -- a connection gave a cause to close it, and was closed
   pub closes : (number : ℕ) (cause : Cause) (before after : Primary I D i d) (network : N) (first mid last : L) (old new : List (Option (Connection S)))

@@ -81,7 +81,7 @@ module _ {I D S N L : Type 0} {i : index.Ghosts I} {d : store.Ghosts D} (s : str
 
   moment_noted : (now : ℕ) (one : TurnMoment) (old new : Served I D S N L i d) → IsMoment s n l now one old new → Took l (AreNotesOfMoment one) old.notes new.notes
   moment_noted now Asks old new h = ([], refl, ap log_of h.rest)
-  moment_noted now (Moves number) old new h = ([], refl, ap log_of h.rest)
+  moment_noted now (Moves number answer) old new h = ([], refl, ap log_of h.rest)
   moment_noted now (Connects peer effects) old new h = (notes_of effects.noted ++ notes_of_opened effects.accepted peer, refl, h.taken.noted)
   moment_noted now (Refuses peer) old new h = (note.Refused ∷ [], refl, (new.notes, h.noted, refl))
   moment_noted now (Happens event effects goings) old new h =

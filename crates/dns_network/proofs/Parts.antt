@@ -1,21 +1,23 @@
 -- The parts of a turn.
 use Rattle.std.proofs.Common.{◌≡◌, ◌⊎◌, inl, inr, ℕ, zero, suc, Bool, true, false, ◌||◌, List, [], ◌∷◌, ◌++◌, length, Option, Some, None, refl, ap, sym, subst, ◌∙◌}
-use Rattle.std.specs.Prelude.{is_some, slice_get}
+use Rattle.std.specs.Prelude.{is_some}
 use Rattle.dns_zone.specs.declared.index.ZoneIndex as index
 use Rattle.dns_store.specs.declared.zone_store.ZoneStore as store
 use Rattle.dns_primary.specs.declared.event.Reply.{Reply}
 use Rattle.dns_network.specs.declared.connection.Connection.{Connection}
 use Rattle.dns_network.specs.declared.stream.Moved.{Moved}
-use Rattle.dns_network.specs.declared.stream.Moved.TheVariants.{Ended}
+use Rattle.dns_network.specs.declared.stream.Moved.TheVariants.{Octets, Later, Ended}
 use Rattle.dns_network.specs.declared.stream.Stream as stream
 use Rattle.dns_network.specs.declared.network.Network.{Ghosts}
 use Rattle.dns_network.specs.declared.network.Notes as notes
 use Rattle.dns_network.specs.Connection.{MovesOn, held_of}
-use Rattle.dns_network.specs.Connections.{HasBecome, HasMovedAt, IsGoneOr, IsOpenWith, has_left_at, is_open, is_open_at}
+use Rattle.dns_network.specs.Closing.{HasEnded}
+use Rattle.dns_network.specs.Connections.{HasBecome, HasMovedAt, HasReadAt, IsGoneOr, IsOpenWith, has_left_at, is_open, is_open_at}
 use Rattle.dns_network.specs.Delivery.{Served}
-use Rattle.dns_network.specs.Turn.{TurnMoment, Asks, AreMoments, IsMoment}
-use Rattle.dns_network.specs.Turns.{AreIdle, AreServed, EachHasItsPart, HasItsPart, HasParts, IsAccepting, IsReceiving}
-use Rattle.dns_network.proofs.Leads.{MomentsLead}
+use Rattle.dns_primary.specs.declared.primary.Primary.{Primary}
+use Rattle.dns_network.specs.Turn.{TurnMoment, Asks, Closes, Moves, AreMoments, IsMoment}
+use Rattle.dns_network.specs.Turns.{AreIdle, AreServed, EachHasItsPart, HandlesOne, HasParts, IsAccepting, IsReading, IsReceiving, UnlessEnded}
+use Rattle.dns_network.proofs.Leads.{MomentsLead, moves, standing}
 use Rattle.dns_network.proofs.Steps.{steps_on}
 
 -- two that are not both
@@ -70,6 +72,21 @@ module _ {S : Type 0} where
         clashes (is_open number new) opened (ap (λ (cs : List (Option (Connection S))). is_open number cs) same ∙ closed)
     moved_there opened (inr on) = on
 
+    -- one that is read later did not end
+    pub read_ended : moved ≡ Ended → HasReadAt s now number moved old new → HasMovedAt s now number moved old new
+    read_ended ended (inl on) = on
+    read_ended ended (inr (later, is, same)) = absurd (let clash : Later ≡ Ended = sym is ∙ ended in cc)
+
+-- what is done after a stream answered
+pub not_ended : (number : ℕ) (answer : Moved) (done : List TurnMoment → Type 0) (rest : List TurnMoment) → (answer ≡ Ended → ⊥) → done rest
+    → UnlessEnded number answer done rest
+not_ended number (Octets count) done rest lasts is = is
+not_ended number Later done rest lasts is = is
+not_ended number Ended done rest lasts is = absurd (lasts refl)
+
+pub has_ended : (number : ℕ) (answer : Moved) (done : List TurnMoment → Type 0) → answer ≡ Ended → UnlessEnded number answer done (Closes number HasEnded ∷ [])
+has_ended number answer done is = subst (λ (a : Moved). UnlessEnded number a done (Closes number HasEnded ∷ [])) (sym is) refl
+
 -- What is done one after the other is idle if each of it is.
 pub idle_on : (first last : List TurnMoment) → AreIdle first → AreIdle last → AreIdle (first ++ last)
 idle_on [] last is more = more
@@ -83,6 +100,38 @@ module _ {I D S N L : Type 0} {i : index.Ghosts I} {d : store.Ghosts D} (s : str
   pub moments_on : (first last : List TurnMoment) (a b c : Served I D S N L i d) → AreMoments s n l now first a b → AreMoments s n l now last b c
       → AreMoments s n l now (first ++ last) a c
   moments_on first last a b c is more = steps_on (λ x one y. IsMoment s n l now one x y) first last a b c is more
+
+  -- The connection was read, if it is open and is not read later; its stream did not end; and then this was done.
+  pub read_then : (number : ℕ) (answer : Moved) (rest : List TurnMoment) (primary : Primary I D i d) (network : N) (notes : L) (old mid : List (Option (Connection S)))
+      (new : Served I D S N L i d) → (answer ≡ Ended → ⊥) → HasReadAt s now number answer old mid → (is_open number mid ≡ true) ⊎ (rest ≡ [])
+      → AreMoments s n l now rest (standing primary network notes mid) new → HandlesOne number rest new
+      → (moments : List TurnMoment) × IsReading s n l now number moments (standing primary network notes old) new × (answer ≡ Later → AreIdle rest → AreIdle moments)
+  read_then number answer rest primary network notes old mid new lasts (inl (inl (closed, moved_none, same))) (inl opened) are handles =
+      clashes (is_open number mid) opened (ap (is_open number) same ∙ closed)
+  read_then number answer rest primary network notes old mid new lasts (inl (inl (closed, moved_none, same))) (inr none) are handles = (
+    rest,
+    record {
+      are = subst (λ (cs : List (Option (Connection S))). AreMoments s n l now rest (standing primary network notes cs) new) same are;
+      reads = inl (closed, none);
+    },
+    λ is idle. idle,
+  )
+  read_then number answer rest primary network notes old mid new lasts (inl (inr on)) there are handles = (
+    Moves number answer ∷ rest,
+    record {
+      are = (standing primary network notes mid, moves s n l now number answer primary network notes old mid on, are);
+      reads = inr (inr (inl (answer, rest, refl, not_ended number answer (λ done. HandlesOne number done new) rest lasts handles)));
+    },
+    λ is idle. (is, idle),
+  )
+  read_then number answer rest primary network notes old mid new lasts (inr (later, is, same)) there are handles = (
+    rest,
+    record {
+      are = subst (λ (cs : List (Option (Connection S))). AreMoments s n l now rest (standing primary network notes cs) new) same are;
+      reads = inr (inl (later, handles));
+    },
+    λ is idle. idle,
+  )
 
   each_moments : (number : ℕ) (moments : List TurnMoment) (old new : Served I D S N L i d) → EachHasItsPart s n l now number moments old new
       → AreMoments s n l now moments old new

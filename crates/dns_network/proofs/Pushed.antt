@@ -9,8 +9,8 @@ use Rattle.dns_network.specs.declared.stream.Stream.{Ghosts}
 use Rattle.dns_network.specs.declared.stream.Moved.{Moved}
 use Rattle.dns_network.specs.declared.stream.Moved.TheVariants.{Later}
 use Rattle.dns_network.specs.Framed.{pending_length}
-use Rattle.dns_network.specs.Connection.{IsQueued, MovesOn, held_of, rest_of, unwritten_of, stream_of, unhandled, used_of}
-use Rattle.dns_network.specs.Connections.{IsPushedTo, IsReplyPushed, HasBecome, HasMovedAt, HandsOver, is_open, is_open_at}
+use Rattle.dns_network.specs.Connection.{HasRead, IsQueued, IsReadLater, MovesOn, held_of, rest_of, unwritten_of, stream_of, unhandled, used_of}
+use Rattle.dns_network.specs.Connections.{IsPushedTo, IsReplyPushed, HasBecome, HasMovedAt, HasReadAt, HandsOver, IsOpenWith, is_open, is_open_at}
 use Rattle.dns_network.proofs.Framed.{joined, apart}
 
 pub on_ok : {T E P Q : Type 0} (r : Result T E) → (P → Q) → OnOk r P → OnOk r Q
@@ -87,6 +87,12 @@ module _ {S : Type 0} (number : ℕ) (old : List (Option (Connection S))) (size 
   pub moved_one : (s : Ghosts S) (now : ℕ) (moved : Moved) (c d : Connection S) → here ≡ Some c → MovesOn s now moved c d
       → HasMovedAt s now number moved old (slice_set old number (Some d))
   moved_one s now moved c d is on = inr (become_one (MovesOn s now moved) c d is on)
+
+  pub read_one : (s : Ghosts S) (now : ℕ) (moved : Moved) (c d : Connection S) → here ≡ Some c → HasRead s now moved c d
+      → HasReadAt s now number moved old (slice_set old number (Some d))
+  read_one s now moved c d is (inl on) = inl (moved_one s now moved c d is on)
+  read_one s now moved c d is (inr (later, none, same)) =
+      inr (subst (IsOpenWith IsReadLater) (sym (at ∙ ap Some is)) later, none, ap (slice_set old number) (ap Some same ∙ sym is) ∙ nothing_there)
 
   pub handed_one : {M : Type 0} (octets : M → List ℕ) (handed : Option M) (now : ℕ) (c d : Connection S) → here ≡ Some c
       → MatchOption handed (held_of c ≡ []) (λ m. held_of c ≡ octets m ∷ held_of d)

@@ -179,7 +179,7 @@ module _ {I D S N L : Type 0} {i : index.Ghosts I} {d : store.Ghosts D} (s : str
   moment_told : (now : ℕ) (one : TurnMoment) (old new : Served I D S N L i d) (m : Machine) → IsMoment s n l now one old new → IsKept old.primary m
       → RunsTo (told_in one) old.primary new.primary m
   moment_told now Asks old new m is kept = none_told old.primary new.primary m (asked_stays n l old new is) kept
-  moment_told now (Moves number) old new m is kept =
+  moment_told now (Moves number answer) old new m is kept =
       none_told old.primary new.primary m (ap (λ (x : Served I D S N L i d). x.primary) is.rest) kept
   moment_told now (Connects peer effects) old new m is kept = event_told (Connect peer) effects old.primary new.primary m is.taken.told kept
   moment_told now (Refuses peer) old new m is kept =

@@ -1,5 +1,5 @@
 -- What becomes of a connection that is used, or not.
-use Rattle.std.proofs.Common.{◌≡◌, ◌⊎◌, inl, inr, ℕ, zero, suc, ◌+◌, ◌-◌, ◌<◌, ◌≤◌, true, false, not, ◌==◌, List, [], ◌∷◌, ◌++◌, length, take, drop, Option, Some, None, refl, ap, sym, subst, ◌∙◌, slice_set, arith}
+use Rattle.std.proofs.Common.{◌≡◌, ◌⊎◌, inl, inr, ℕ, zero, suc, ◌-◌, ◌<◌, ◌≤◌, true, false, not, List, [], ◌∷◌, ◌++◌, length, take, drop, Option, Some, None, refl, ap, sym, subst, ◌∙◌, slice_set, arith}
 use Rattle.std.specs.Prelude.{◌≢◌, slice_get}
 use Rattle.std.proofs.lemmas.List.{length-take-le, take-append-drop}
 use Rattle.std.proofs.lemmas.Bool.Decides.{nat_tests}
@@ -8,7 +8,7 @@ use Rattle.dns_network.specs.declared.stream.Moved.{Moved}
 use Rattle.dns_network.specs.declared.stream.Moved.TheVariants.{Octets, Later, Ended}
 use Rattle.dns_network.specs.declared.stream.Stream as stream
 use Rattle.dns_network.specs.Connection.{HasMoved, HasTaken, HasTakenNone, IsInUse, IsQueued, IsSilent, IsStalled, IsUnused, IsUnusedOrInUse, held_of, unwritten_of, used_after, used_of}
-use Rattle.dns_network.specs.Connections.{HandsOver, HasMovedAt, IsGoneOr, IsNextQueued, IsOpenWith, HasPumped, IsPushedTo, IsReplyPushed, has_left_at, is_open_at}
+use Rattle.dns_network.specs.Connections.{HandsOver, HasMovedAt, HasReadAt, IsGoneOr, IsNextQueued, IsOpenWith, HasPumped, IsPushedTo, IsReplyPushed, has_left_at, is_open_at}
 use Rattle.dns_network.specs.Framed.{pending_length}
 use Rattle.dns_network.specs.Stream.{IfOctets, moved}
 use Rattle.dns_network.proofs.Pushed.{set_there}
@@ -243,6 +243,13 @@ module _ {S : Type 0} (s : stream.Ghosts S) where
       subst (λ (place : Option (Option (Connection S))). IsGoneOr (λ c. IsSilent now c ⊎ IsInUse now c) place) (sym at)
       (read_silent now c d on.moved (none d at) was)
 
+  none_heard : (now number : ℕ) (moved : Moved) (old mid : List (Option (Connection S))) → HasReadAt s now number moved old mid
+      → ((c : Connection S) → slice_get mid number ≡ Some (Some c) → held_of c ≡ [])
+      → Is (IsUnusedOrInUse now) number old → Is (λ c. IsSilent now c ⊎ IsInUse now c) number mid
+  none_heard now number moved old mid (inl on) none is = none_handed now number moved old mid on none is
+  none_heard now number moved old mid (inr (later, none_moved, same)) none is =
+      still_silent now (slice_get mid number) none (subst (Is (IsUnusedOrInUse now) number) (sym same) is)
+
   -- ... and where it is not silent, it is in use
   not_silent : (now : ℕ) (place : Option (Option (Connection S))) → (IsOpenWith (IsSilent now) place → ⊥) → IsGoneOr (λ c. IsSilent now c ⊎ IsInUse now c) place
       → IsGoneOr (IsInUse now) place
@@ -251,12 +258,12 @@ module _ {S : Type 0} (s : stream.Ghosts S) where
   not_silent now (Some (Some c)) not (inl silent) = absurd (not silent)
   not_silent now (Some (Some c)) not (inr used) = used
 
-  pub heard_none : (now number : ℕ) (moved : Moved) (old mid new : List (Option (Connection S))) → HasMovedAt s now number moved old mid
+  pub heard_none : (now number : ℕ) (moved : Moved) (old mid new : List (Option (Connection S))) → HasReadAt s now number moved old mid
       → HandsOver now number None mid new → (IsOpenWith (IsSilent now) (slice_get new number) → ⊥)
       → Is (IsUnusedOrInUse now) number old → Is (IsInUse now) number new
   heard_none now number moved old mid new on (same, none) not is =
       not_silent now (slice_get new number) not
-      (subst (Is (λ c. IsSilent now c ⊎ IsInUse now c) number) (sym same) (none_handed now number moved old mid on none is))
+      (subst (Is (λ c. IsSilent now c ⊎ IsInUse now c) number) (sym same) (none_heard now number moved old mid on none is))
 
   -- What is known of a connection, and stays known while it goes on: while replies are queued, octets move and
   -- a message is handed over in a second. It is known of each one that was used in that second.

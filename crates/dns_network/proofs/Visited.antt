@@ -18,7 +18,6 @@ use Rattle.dns_primary.specs.Step.{Pump, Step}
 use Rattle.dns_primary.specs.Transfer as transfer
 use Rattle.dns_network.specs.declared.connection.Connection.{Connection}
 use Rattle.dns_network.specs.declared.network.Network.{Ghosts}
-use Rattle.dns_network.specs.declared.network.Note.{Note}
 use Rattle.dns_network.specs.declared.network.Note.TheVariants as note
 use Rattle.dns_network.specs.declared.network.Notes as notes
 use Rattle.dns_network.specs.Connections.{IsNextQueued, HasPumped}

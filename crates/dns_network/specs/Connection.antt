@@ -67,14 +67,25 @@ module _ {S : Type 0} where
         × (unhandled new ≡ unhandled old ++ piece)
     pub used : HasTaken now old new ⊎ HasTakenNone old new
 
-  -- So it is after a read or a write, and where that says that the stream ended, it has.
-  pub record MovesOn (s : Ghosts S) (now : ℕ) (result : Moved) (old new : Connection S) : Type 0 where
+  -- So it is after its stream was read or written and answered this; and it ended if it answered that.
+  pub record MovesOn (s : Ghosts S) (now : ℕ) (answer : Moved) (old new : Connection S) : Type 0 where
     pub moved : HasMoved s now old new
-    pub ended : result ≡ Ended → s.has_ended (stream_of new)
+    pub answered : s.answers (stream_of old) answer (stream_of new)
+    pub ended : answer ≡ Ended → s.has_ended (stream_of new)
+
+  -- Octets are left to write, or a message waits to be handled: it is not read before.
+  abbrev pub IsReadLater : Connection S → Type 0
+  IsReadLater c = (unwritten_of c ≢ []) ⊎ (held_of c ≢ [])
+
+  -- Its stream was read, and answered this; or it is read later, and nothing has changed.
+  abbrev pub HasRead : Ghosts S → ℕ → Moved → Connection S → Connection S → Type 0
+  HasRead s now answer old new =
+      MovesOn s now answer old new ⊎ (IsReadLater old × (answer ≡ Later) × (new ≡ old))
 
   -- A piece was read, one octet or more, and is not among what came: memory for it was refused. All else is
   -- what it was.
   pub record HasLost (s : Ghosts S) (old new : Connection S) : Type 0 where
+    pub answered : (count : ℕ) × s.answers (stream_of old) (Octets count) (stream_of new)
     pub faithful : s.is_faithful (stream_of new) ↔ s.is_faithful (stream_of old)
     pub lost : s.is_faithful (stream_of old)
         → (piece : List ℕ) × (piece ≢ []) × (s.received (stream_of new) ≡ s.received (stream_of old) ++ piece)

@@ -5,8 +5,8 @@ use Rattle.dns_network.specs.declared.connection.Connection.{Connection}
 use Rattle.dns_network.specs.declared.connections.Connections.{Connections}
 use Rattle.dns_network.specs.declared.stream.Stream.{Ghosts}
 use Rattle.dns_network.specs.declared.stream.Moved.{Moved}
-use Rattle.dns_network.specs.declared.stream.Moved.TheVariants.{Ended}
-use Rattle.dns_network.specs.Connection.{IsQueued, MovesOn, HasHandedOver, held_of, unwritten_of}
+use Rattle.dns_network.specs.declared.stream.Moved.TheVariants.{Later, Ended}
+use Rattle.dns_network.specs.Connection.{IsQueued, IsReadLater, MovesOn, HasHandedOver, held_of, unwritten_of}
 
 module _ {S : Type 0} where
   -- what is stored under each number, from 0 on
@@ -72,13 +72,21 @@ module _ {S : Type 0} where
   has_left_at (Some None) = false
   has_left_at (Some (Some c)) = not (length (unwritten_of c) == 0)
 
-  -- No connection has that number, nothing has changed, and no stream ended; or octets may have moved on the
-  -- connection with that number, and on no other one.
+  -- No connection has that number, nothing has changed, and no stream ended; or the stream of the connection
+  -- with that number was read or written and answered this, and no other one was.
   abbrev pub HasMovedAt : Ghosts S → ℕ → ℕ → Moved → List (Option (Connection S))
       → List (Option (Connection S)) → Type 0
-  HasMovedAt s now number moved old new =
-      ((is_open number old ≡ false) × (moved ≢ Ended) × (new ≡ old))
-      ⊎ HasBecome (MovesOn s now moved) number old new
+  HasMovedAt s now number answer old new =
+      ((is_open number old ≡ false) × (answer ≢ Ended) × (new ≡ old))
+      ⊎ HasBecome (MovesOn s now answer) number old new
+
+  -- It was read, and so it is then; or the connection with that number is read later, and nothing has
+  -- changed.
+  abbrev pub HasReadAt : Ghosts S → ℕ → ℕ → Moved → List (Option (Connection S))
+      → List (Option (Connection S)) → Type 0
+  HasReadAt s now number answer old new =
+      HasMovedAt s now number answer old new
+      ⊎ (IsOpenWith IsReadLater (slice_get old number) × (answer ≡ Later) × (new ≡ old))
 
   -- The connection with that number handed over its first message in the second `now`, and no other one has
   -- changed; or it had none.

@@ -27,7 +27,8 @@ OpensWithinMoment opens m (Took event fails effects new) place c = OpensWithin o
 OpensWithinMoment opens m (Stopped event tries new) place c = OpensWithin opens m event place c
 OpensWithinMoment opens m (Configured new) place c = ⊥
 
--- A crash fell somewhere in the run from this machine: before its first moment, within one, or after the last.
+-- A crash fell somewhere in the run from this machine: before its first moment, within one, or after the
+-- last.
 abbrev pub OpensInRun : (Shape → Opened → Content → Type 0) → Machine → List Moment → ℕ → Content → Type 0
 OpensInRun opens m [] place c = RestsAs opens m place c
 OpensInRun opens m (t ∷ run) place c =

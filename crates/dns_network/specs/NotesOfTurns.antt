@@ -35,7 +35,7 @@ notes_of_cause NoPlace = []
 
 abbrev pub AreNotesOfMoment : TurnMoment → List Note → Type 0
 AreNotesOfMoment Asks notes = notes ≡ []
-AreNotesOfMoment (Moves number) notes = notes ≡ []
+AreNotesOfMoment (Moves number answer) notes = notes ≡ []
 AreNotesOfMoment (Connects peer effects) notes =
     notes ≡ notes_of effects.noted ++ notes_of_opened effects.accepted peer
 AreNotesOfMoment (Refuses peer) notes = notes ≡ Refused ∷ []

@@ -52,7 +52,7 @@ closed_for to.Nowhere cut = []
 -- What the primary is told in a moment, in order.
 abbrev pub told_in : TurnMoment → List Told
 told_in Asks = []
-told_in (Moves number) = []
+told_in (Moves number answer) = []
 told_in (Connects peer effects) = told_of (Connect peer) effects ∷ []
 told_in (Refuses peer) = []
 told_in (Happens event effects goings) =

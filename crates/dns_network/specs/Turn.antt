@@ -2,9 +2,10 @@
 use Rattle.std.specs.Prelude.{◌≡◌, ◌⊎◌, ◌≤◌, ◌<◌, ℕ, List, [], ◌++◌, length}
 use Rattle.std.specs.Prelude.{Option, Some, None, false, slice_get, slice_set}
 use Rattle.dns_network.specs.declared.connection.Connection.{Connection}
+use Rattle.dns_network.specs.declared.stream.Moved.{Moved}
 use Rattle.dns_network.specs.declared.stream.Stream as stream
 use Rattle.dns_network.specs.Closing.{Cause, GivesCause, HasEnded, Silent, Stalled, NoMemory, NoPlace}
-use Rattle.dns_network.specs.Connection.{HasMoved, HasHandedOver, stream_of, unhandled, unwritten_of, used_of}
+use Rattle.dns_network.specs.Connection.{HasHandedOver, MovesOn, stream_of, unhandled, unwritten_of, used_of}
 use Rattle.dns_network.specs.Connections.{is_open, open_connections}
 use Rattle.dns_zone.specs.declared.index.ZoneIndex as index
 use Rattle.dns_store.specs.declared.zone_store.ZoneStore as store
@@ -21,12 +22,13 @@ use Rattle.dns_network.specs.Notes.{AreNoted, notes_of, notes_of_opened}
 use Rattle.dns_network.specs.Delivery.{Served, Going, TakesEvent, HasEffects, HasNoted, IsClosed}
 use Rattle.dns_network.specs.Steps.{AreSteps}
 
--- One thing that is done: the network is asked, and nothing came; octets move on the connection with a
--- number; a peer connects, or its connection is refused; an event happens, and its replies go out; the
--- connection with a number is closed, for a cause. What the primary does is in the effects.
+-- One thing that is done: the network is asked, and nothing came; the stream of the connection with a number
+-- is read or written, and answers this; a peer connects, or its connection is refused; an event happens, and
+-- its replies go out; the connection with a number is closed, for a cause. What the primary does is in the
+-- effects.
 pub data TurnMoment : Type 0 where
   Asks : TurnMoment
-  Moves : ℕ → TurnMoment
+  Moves : ℕ → Moved → TurnMoment
   Connects : Peer → Effects → TurnMoment
   Refuses : Peer → TurnMoment
   Happens : Event → Effects → List Going → TurnMoment
@@ -84,11 +86,12 @@ module _ {I D S N L : Type 0} {i : index.Ghosts I} {d : store.Ghosts D} where
     pub nothing : n.accepts old.network None new.network
         ⊎ (n.receives old.network None new.network ⊎ n.looks old.network new.network)
 
-  pub record MovedOn (s : stream.Ghosts S) (now number : ℕ) (old new : Served I D S N L i d) : Type 0 where
+  pub record MovedOn (s : stream.Ghosts S) (now number : ℕ) (answer : Moved) (old new : Served I D S N L i d)
+      : Type 0 where
     pub before : Connection S
     pub after : Connection S
     pub there : slice_get old.connections number ≡ Some (Some before)
-    pub moved : HasMoved s now before after
+    pub on : MovesOn s now answer before after
     pub rest : new ≡ record old { connections = slice_set old.connections number (Some after) }
 
   -- The connection of a peer came, and is taken up: fewer than 48 were open, or its address is listed.
@@ -156,7 +159,7 @@ module _ {I D S N L : Type 0} {i : index.Ghosts I} {d : store.Ghosts D} where
   abbrev pub IsMoment : stream.Ghosts S → Ghosts N S → notes.Ghosts L → ℕ → TurnMoment → Served I D S N L i d
       → Served I D S N L i d → Type 0
   IsMoment s n l now Asks old new = HasAsked n old new
-  IsMoment s n l now (Moves number) old new = MovedOn s now number old new
+  IsMoment s n l now (Moves number answer) old new = MovedOn s now number answer old new
   IsMoment s n l now (Connects peer effects) old new = HasConnected n l now peer effects old new
   IsMoment s n l now (Refuses peer) old new = HasRefused n l peer old new
   IsMoment s n l now (Happens event effects goings) old new =

@@ -6,13 +6,15 @@ use Rattle.dns_store.specs.declared.zone_store.ZoneStore as store
 use Rattle.dns_primary.specs.declared.event.Peer.{Peer}
 use Rattle.dns_primary.specs.declared.event.Effects.{Effects}
 use Rattle.dns_primary.specs.Step.{Event, Datagram, Connect, Arrives, Flush, Checkpoint, Pump, Closed}
+use Rattle.dns_network.specs.declared.stream.Moved.{Moved}
+use Rattle.dns_network.specs.declared.stream.Moved.TheVariants.{Octets, Later, Ended}
 use Rattle.dns_network.specs.declared.stream.Stream as stream
 use Rattle.dns_network.specs.declared.network.Network.{Ghosts}
 use Rattle.dns_network.specs.declared.network.Note.TheVariants as note
 use Rattle.dns_network.specs.declared.network.Notes as notes
-use Rattle.dns_network.specs.Closing.{Cause, NoMemory, NoPlace}
-use Rattle.dns_network.specs.Connection.{held_of}
-use Rattle.dns_network.specs.Connections.{IsGoneOr, has_left_at, is_open}
+use Rattle.dns_network.specs.Closing.{HasEnded, Silent, Stalled, NoMemory, NoPlace}
+use Rattle.dns_network.specs.Connection.{IsReadLater, held_of}
+use Rattle.dns_network.specs.Connections.{IsGoneOr, IsOpenWith, has_left_at, is_open}
 use Rattle.dns_network.specs.Delivery.{Served, Going, HasNoted}
 use Rattle.dns_network.specs.Steps.{AreSteps}
 use Rattle.dns_network.specs.Turn.{TurnMoment, Asks, Moves, Connects, Refuses, Happens, Closes}
@@ -34,10 +36,11 @@ FindsNothing Flush effects = ⊥
 FindsNothing (Checkpoint place) effects = ⊥
 FindsNothing (Closed number) effects = ⊥
 
--- What is done where there is nothing to do: the network and the streams are asked, and each transfer.
+-- What is done where there is nothing to do: the network is asked, and each transfer; and each stream, which
+-- answers that no octet could move.
 abbrev pub IsIdle : TurnMoment → Type 0
 IsIdle Asks = Unit {0}
-IsIdle (Moves number) = Unit {0}
+IsIdle (Moves number answer) = answer ≡ Later
 IsIdle (Connects peer effects) = ⊥
 IsIdle (Refuses peer) = ⊥
 IsIdle (Happens event effects goings) = FindsNothing event effects
@@ -61,33 +64,49 @@ AnswersOne moments =
     (peer : Peer) × (octets : List ℕ) × (effects : Effects) × (goings : List Going)
     × (moments ≡ Happens (Datagram peer octets) effects goings ∷ [])
 
--- The connection with a number is closed, or nothing is done.
-abbrev pub MayClose : ℕ → List TurnMoment → Type 0
-MayClose number moments = (moments ≡ []) ⊎ ((cause : Cause) × (moments ≡ Closes number cause ∷ []))
+-- What is done with the connection with a number after its stream answered this. If the stream ended, the
+-- connection is closed for that, and nothing else is done; else this is.
+abbrev pub UnlessEnded : ℕ → Moved → (List TurnMoment → Type 0) → List TurnMoment → Type 0
+UnlessEnded number Ended done moments = moments ≡ Closes number HasEnded ∷ []
+UnlessEnded number Later done moments = done moments
+UnlessEnded number (Octets count) done moments = done moments
 
--- What is left to write on the connection with a number is written, as far as its stream takes it; and it may
--- be closed.
+-- The connection with a number is closed, since it is stalled; or nothing is done.
+abbrev pub MayStall : ℕ → List TurnMoment → Type 0
+MayStall number moments = (moments ≡ []) ⊎ (moments ≡ Closes number Stalled ∷ [])
+
+-- What is left to write on the connection with a number is written, as far as its stream takes it; and the
+-- connection is closed if the stream ended, or if it is stalled.
 abbrev pub Writes : ℕ → List TurnMoment → Type 0
-Writes number moments = (rest : List TurnMoment) × (moments ≡ Moves number ∷ rest) × MayClose number rest
+Writes number moments =
+    (answer : Moved) × (rest : List TurnMoment) × (moments ≡ Moves number answer ∷ rest)
+    × UnlessEnded number answer (MayStall number) rest
 
 module _ {I D S N L : Type 0} {i : index.Ghosts I} {d : store.Ghosts D} where
   -- On the connection with a number no message waits to be handled, unless it is gone.
   abbrev pub NoneIsHeld : ℕ → Served I D S N L i d → Type 0
   NoneIsHeld number now = IsGoneOr (λ c. held_of c ≡ []) (slice_get now.connections number)
 
-  -- The first message that waits on the connection with a number is handled; or none waits; or it is closed.
+  -- The first message that waits on the connection with a number is handled; or none waits; or it is silent,
+  -- and is closed.
   abbrev pub HandlesOne : ℕ → List TurnMoment → Served I D S N L i d → Type 0
   HandlesOne number moments new =
       ((message : List ℕ) × (effects : Effects) × (goings : List Going)
       × (moments ≡ Happens (Arrives number message) effects goings ∷ []))
       ⊎ ((moments ≡ []) × NoneIsHeld number new)
-      ⊎ ((cause : Cause) × (moments ≡ Closes number cause ∷ []))
+      ⊎ (moments ≡ Closes number Silent ∷ [])
 
-  -- The stream of the connection with a number is read, unless a message waits, and one message is handled; or
-  -- memory for what was read is refused, and it is closed.
-  abbrev pub ReadsOne : ℕ → List TurnMoment → Served I D S N L i d → Type 0
-  ReadsOne number moments new =
-      ((rest : List TurnMoment) × (moments ≡ Moves number ∷ rest) × HandlesOne number rest new)
+  -- Octets are left to write on the connection with a number, or a message waits on it.
+  abbrev pub ReadsLater : ℕ → Served I D S N L i d → Type 0
+  ReadsLater number now = IsOpenWith IsReadLater (slice_get now.connections number)
+
+  -- The stream of the connection with a number is read, unless it is to be read later, and one message is
+  -- handled. The connection is closed if the stream ended, or if memory for what was read is refused.
+  abbrev pub ReadsOne : ℕ → List TurnMoment → Served I D S N L i d → Served I D S N L i d → Type 0
+  ReadsOne number moments old new =
+      (ReadsLater number old × HandlesOne number moments new)
+      ⊎ ((answer : Moved) × (rest : List TurnMoment) × (moments ≡ Moves number answer ∷ rest)
+      × UnlessEnded number answer (λ done. HandlesOne number done new) rest)
       ⊎ (moments ≡ Closes number NoMemory ∷ [])
 
 module _ {I D S N L : Type 0} {i : index.Ghosts I} {d : store.Ghosts D} (s : stream.Ghosts S)
@@ -110,7 +129,7 @@ module _ {I D S N L : Type 0} {i : index.Ghosts I} {d : store.Ghosts D} (s : str
   pub record IsReading (number : ℕ) (moments : List TurnMoment) (old new : Served I D S N L i d)
       : Type 0 where
     pub are : AreMoments s n l now moments old new
-    pub reads : ((is_open number old.connections ≡ false) × (moments ≡ [])) ⊎ ReadsOne number moments new
+    pub reads : ((is_open number old.connections ≡ false) × (moments ≡ [])) ⊎ ReadsOne number moments old new
 
   -- The next message of the transfer that is open on the connection with a number is asked for; if there is
   -- none, the connection is read.

@@ -3,7 +3,7 @@ ghost use Rattle.std.specs.Prelude.{◌≡◌, ◌≢◌, ◌<◌, ◌==◌, ◌
 ghost use Rattle.std.specs.Prelude.{◌↔◌, IsTrue, IfOk, OnOk, OnErr, OnSome, IfNone, MatchOption};
 ghost use Rattle.dns_network.specs.Framed.{IsFramed};
 ghost use Rattle.dns_network.specs.Stream.{IfOctets, moved};
-ghost use Rattle.dns_network.specs.Connection.{HasLost, HasMoved, IsQueued, IsSilent, IsStalled, MovesOn};
+ghost use Rattle.dns_network.specs.Connection.{HasLost, HasMoved, HasRead, IsQueued, IsSilent, IsStalled};
 ghost use Rattle.dns_network.specs.Connection.{held_of, rest_of, stream_of, unwritten_of, used_after};
 ghost use Rattle.dns_network.specs.Connection.{used_of};
 
@@ -95,6 +95,7 @@ impl<S: Stream + Drop> Connection<S> {
         ensures left { unwritten_of self.new ≡ drop (moved result) (unwritten_of self.old) }
         // What the stream took and what is left are what they were, in order.
         ensures moved { HasMoved S.Stream now self.old self.new }
+        ensures answered { S.answers (stream_of self.old) result (stream_of self.new) }
         ensures ended { result ≡ Moved.Ended → S.has_ended (stream_of self.new) }
         ensures used { used_of self.new ≡ used_after result now (used_of self.old) }
         ensures still { S.is_faithful (stream_of self.old)
@@ -117,7 +118,7 @@ impl<S: Stream + Drop> Connection<S> {
         ensures came { S.is_faithful (stream_of self.old) → IfOk result (λ moved. IfOctets moved
             ((piece : List ℕ) × (S.received (stream_of self.new) ≡ S.received (stream_of self.old) ++ piece)
             × IsFramed (rest_of self.old ++ piece) (held_of self.new) (rest_of self.new))) }
-        ensures moved { (now : ℕ) → IfOk result (λ moved. MovesOn S.Stream now moved self.old self.new) }
+        ensures moved { (now : ℕ) → IfOk result (λ moved. HasRead S.Stream now moved self.old self.new) }
         ensures lost { OnErr result (HasLost S.Stream self.old self.new) }
         ensures still { S.is_faithful (stream_of self.old)
             → S.sent (stream_of self.new) ≡ S.sent (stream_of self.old) }

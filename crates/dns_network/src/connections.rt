@@ -3,8 +3,9 @@ ghost use Rattle.std.specs.Prelude.{◌≡◌, ◌≤◌, ◌<◌, ℕ, length, 
 ghost use Rattle.std.specs.Prelude.{◌↔◌, None, Some, IsTrue, IfErr, IfOk, OnOk, OnErr};
 ghost use Rattle.std.specs.Option.{option_copied_mut, option_map};
 ghost use Rattle.dns_network.specs.Connection.{HasLost, IsSilent, IsStalled};
-ghost use Rattle.dns_network.specs.Connections.{HandsOver, HasBecome, HasMovedAt, IsReplyPushed, IsOpenWith};
-ghost use Rattle.dns_network.specs.Connections.{connection_at, has_left_at, is_open, open_connections, places_of};
+ghost use Rattle.dns_network.specs.Connections.{HandsOver, HasBecome, HasMovedAt, HasReadAt, IsReplyPushed};
+ghost use Rattle.dns_network.specs.Connections.{IsOpenWith, connection_at, has_left_at, is_open};
+ghost use Rattle.dns_network.specs.Connections.{open_connections, places_of};
 
 use crate::{Connection, Moved, Octets, Stream};
 use dns_memory::Heap;
@@ -138,7 +139,7 @@ impl<S: Stream + Drop> Connections<S> {
         buffer: &mut [u8],
     ) -> Result<Moved, AllocError>
         ensures moved { (now : ℕ) → IfOk result
-            (λ moved. HasMovedAt S.Stream now number moved (places_of self.old) (places_of self.new)) }
+            (λ moved. HasReadAt S.Stream now number moved (places_of self.old) (places_of self.new)) }
         ensures lost { OnErr result
             (HasBecome (HasLost S.Stream) number (places_of self.old) (places_of self.new)) }
     {

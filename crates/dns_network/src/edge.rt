@@ -9,11 +9,13 @@ ghost use Rattle.dns_primary.specs.Step.{Closed, Pump};
 ghost use Rattle.dns_network.specs.declared.network.Note.TheVariants as note;
 ghost use Rattle.dns_network.specs.Closing.{StalledAreGone, UnusedAreGone};
 ghost use Rattle.dns_network.specs.Connection.{IsInUse, IsStalled, IsUnused, IsUnusedOrInUse, used_of};
-ghost use Rattle.dns_network.specs.Connections.{IsGoneOr, IsOpenWith, HasPumped, connection_at, open_connections};
+ghost use Rattle.dns_network.specs.Connections.{IsGoneOr, IsOpenWith, HasPumped, connection_at};
+ghost use Rattle.dns_network.specs.Connections.{open_connections};
 ghost use Rattle.dns_network.specs.Notes.{AreNoted, notes_of};
 ghost use Rattle.dns_network.specs.Delivery.{AreSent, Going, HasEffects, IsSent, TakesEvent, connections_of};
 ghost use Rattle.dns_network.specs.Delivery.{RestsAsBefore, rested_of, served};
-ghost use Rattle.dns_network.specs.Turn.{Happens, IsMoment, IsWelcomed, NoneWaits, TurnMoment, places_for_all};
+ghost use Rattle.dns_network.specs.Turn.{Happens, IsMoment, IsWelcomed, NoneWaits, TurnMoment};
+ghost use Rattle.dns_network.specs.Turn.{places_for_all};
 ghost use Rattle.dns_network.specs.Turns.{AreDone, AreIdle, AreServed, HasItsPart, IsAccepting, IsReading};
 ghost use Rattle.dns_network.specs.Turns.{IsReceiving, IsTurn};
 
@@ -193,7 +195,8 @@ impl<S: Stream + Drop> Edge<S> {
     }
 
     /// Opens a connection that a peer made: the primary is told, its stream is watched, and it gets its slot.
-    /// One that gets no number, or can't be watched, is closed at once. It is compiled apart, so that a turn in which none comes doesn't pay for it.
+    /// One that gets no number, or can't be watched, is closed at once. It is compiled apart, so that a turn
+    /// in which none comes doesn't pay for it.
     #[inline(never)]
     fn open_connection<I: ZoneIndex, D: ZoneStore, N: Network<S>, L: Notes>(
         &mut self,
@@ -478,8 +481,8 @@ impl<S: Stream + Drop> Edge<S> {
     /// stalled for 30 seconds is closed.
     ///
     /// A read or a write that would wait does nothing, and one that fails closes its connection. So does
-    /// refused memory. If a turn before, in the same second, found that no connection had something to do, and
-    /// the network is still, the connections are passed over.
+    /// refused memory. If a turn before, in the same second, found that no connection had something to do,
+    /// and the network is still, the connections are passed over.
     pub fn turn<I: ZoneIndex, D: ZoneStore, N: Network<S>, L: Notes>(
         &mut self,
         alloc: Heap,

@@ -1,6 +1,6 @@
 //! A stream in memory, for tests.
-ghost use Rattle.std.specs.Prelude.{◌≡◌, [], true};
-ghost use Rattle.dns_network.specs.MemoryStream.{HasEnded, has_failed, received_by, sent_by};
+ghost use Rattle.std.specs.Prelude.{◌≡◌, [], false, true};
+ghost use Rattle.dns_network.specs.MemoryStream.{HasAnswered, HasEnded, has_failed, received_by, sent_by};
 
 use crate::{Moved, Octets, Stream};
 use dns_memory::Heap;
@@ -101,6 +101,7 @@ impl MemoryStream {
         ensures received { received_by self.new ≡ received_by self.old }
         ensures sent { sent_by self.new ≡ sent_by self.old }
         ensures failed { result ≡ true → has_failed self.new ≡ true }
+        ensures passed { result ≡ false → has_failed self.new ≡ has_failed self.old }
     {
         let fails = self.fail_at == 1;
         self.fail_at = self.fail_at.saturating_sub(1);
@@ -119,6 +120,8 @@ impl Stream for MemoryStream {
     ghost is_faithful = { λ _. Unit {0} };
 
     ghost has_ended = { HasEnded };
+
+    ghost answers = { HasAnswered };
 
     fn read(&mut self, into: &mut [u8]) -> Moved {
         if self.fails() {

@@ -69,6 +69,7 @@ impl Outbox {
             → S.sent stream.new ≡ S.sent stream.old ++ take (moved result) self.old }
         ensures still { S.is_faithful stream.old → S.received stream.new ≡ S.received stream.old }
         ensures faithful { S.is_faithful stream.new ↔ S.is_faithful stream.old }
+        ensures answered { S.answers stream.old result stream.new }
         ensures ended { result ≡ Moved.Ended → S.has_ended stream.new }
     {
         let moved = stream.write(self.octets.as_slice());

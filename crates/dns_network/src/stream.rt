@@ -1,5 +1,6 @@
 //! A stream of octets as the edge needs it: reads and writes that don't wait.
 ghost use Rattle.std.specs.Prelude.{◌≡◌, ◌<◌, ◌≤◌, ◌↔◌, ◌++◌, List, ℕ, length, take};
+ghost use Rattle.dns_network.specs.declared.stream.Moved.{Moved as StatedMoved};
 ghost use Rattle.dns_network.specs.Stream.{IfOctets, moved};
 
 use std::io::{self, ErrorKind};
@@ -45,10 +46,14 @@ pub trait Stream {
     /// The stream says itself that it ended, or failed.
     ghost has_ended: { Self → Type 0 };
 
+    /// It may go on so after a read or a write that answered this.
+    ghost answers: { Self → StatedMoved → Self → Type 0 };
+
     /// Reads octets that came, as many as there are and as there is room for.
     fn read(&mut self, into: &mut [u8]) -> Moved
         ensures few { moved result ≤ length into.new }
         ensures some { IfOctets result (0 < moved result) }
+        ensures answered { answers self.old result self.new }
         ensures ended { result ≡ Moved.Ended → has_ended self.new }
         ensures came { is_faithful self.old
             → received self.new ≡ received self.old ++ take (moved result) into.new }
@@ -59,6 +64,7 @@ pub trait Stream {
     fn write(&mut self, octets: &[u8]) -> Moved
         ensures few { moved result ≤ length octets.now }
         ensures some { IfOctets result (0 < moved result) }
+        ensures answered { answers self.old result self.new }
         ensures ended { result ≡ Moved.Ended → has_ended self.new }
         ensures went { is_faithful self.old
             → sent self.new ≡ sent self.old ++ take (moved result) octets.now }

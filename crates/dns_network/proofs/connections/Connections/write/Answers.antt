@@ -7,7 +7,7 @@ returns-in-Some g c =
     let places = c.args.self.now.places in
     let within : c.args.number < vec_len places = omega arith in
     moved_one c.args.number places.items (vec_len places) c.index_mut.result.now (omega (arith, places.ok)) within c.index_mut.ensures.value
-    g.S.Stream c.args.now c.write.result c.in-Some.connection c.write.new.self c.in-Some.is (record { moved = c.write.ensures.moved; ended = c.write.ensures.ended })
+    g.S.Stream c.args.now c.write.result c.in-Some.connection c.write.new.self c.in-Some.is (record { moved = c.write.ensures.moved; answered = c.write.ensures.answered; ended = c.write.ensures.ended })
 
 pub returns-in-None : goal.returns-in-None
 returns-in-None g c =

@@ -1,14 +1,16 @@
 use Rattle.std.proofs.Common.{◌≡◌, ◌∙◌, inl, inr, ℕ, true, false, List, [], ◌∷◌, Option, refl, sym, ap, subst}
 use Rattle.dns_network.specs.declared.connection.Connection.{Connection}
 use Rattle.std.specs.Prelude.{slice_get}
+use Rattle.dns_network.specs.declared.stream.Moved.TheVariants.{Octets, Later, Ended}
 use Rattle.dns_network.specs.Closing.{HasEnded, NoMemory, Silent}
 use Rattle.dns_network.specs.Connection.{HasHandedOver, HasLost, IsInUse, IsSilent, held_of}
 use Rattle.dns_network.specs.Connections.{IsGoneOr, IsOpenWith, places_of}
 use Rattle.dns_primary.specs.Step.{Arrives}
 use Rattle.dns_network.specs.Delivery.{connections_of, served}
 use Rattle.dns_network.specs.Turn.{Closes, Happens, Moves}
+use Rattle.dns_network.specs.Turns.{HandlesOne}
 use Rattle.dns_network.proofs.Leads.{closed_still, closed_then, closes, ends, happened, loses, moves, standing}
-use Rattle.dns_network.proofs.Parts.{moved_ended, moved_there, none_held, open_become, open_with}
+use Rattle.dns_network.proofs.Parts.{has_ended, moved_ended, none_held, open_become, open_with, read_ended, read_then}
 use Rattle.dns_network.proofs.Used.{handed_now, heard_none, in_use_stays, is_gone}
 use Rattle.dns_network.proofs.Visited.{effects_stay}
 use Rattle.dns_network.proofs.edge.Edge.read_piece.Goals as goal
@@ -26,7 +28,7 @@ returns-in_default-clause-reads g c =
       Closes number NoMemory ∷ [],
       record {
         are = (served c.close.new.primary c.close.new.self c.args.network.now c.close.new.notes, closed, refl);
-        reads = inr (inr refl);
+        reads = inr (inr (inr refl));
       },
       λ none. absurd (let clash : true ≡ false = none in cc),
     )
@@ -38,18 +40,19 @@ returns-in-Ended-clause-reads g c =
     let network = c.args.network.now in
     let here = connections_of c.args.self.now in
     let there = places_of c.read.new.self in
-    let moved = c.in-Ok.ensures.moved now in
+    let moved = read_ended g.S.Stream now number c.in-Ok.moved here there c.in-Ended.is (c.in-Ok.ensures.moved now) in
+    let new = served c.close-in-Ended.new.primary c.close-in-Ended.new.self network c.close-in-Ended.new.notes in
     let closed = closes g.S.Stream g.N.Network g.L.Notes now number HasEnded c.args.primary.now c.close-in-Ended.new.primary network c.args.notes.now c.args.notes.now c.close-in-Ended.new.notes there (connections_of c.close-in-Ended.new.self)
     (ends g.S.Stream now number c.in-Ok.moved here there c.in-Ended.is moved) refl c.close-in-Ended.ensures.told c.close-in-Ended.ensures.gone c.close-in-Ended.ensures.noted in (
-      Moves number ∷ Closes number HasEnded ∷ [],
+      Moves number c.in-Ok.moved ∷ Closes number HasEnded ∷ [],
       record {
         are = (
           standing c.args.primary.now network c.args.notes.now there,
           moves g.S.Stream g.N.Network g.L.Notes now number c.in-Ok.moved c.args.primary.now network c.args.notes.now here there
               (moved_ended g.S.Stream now number c.in-Ok.moved here there c.in-Ended.is moved),
-          (served c.close-in-Ended.new.primary c.close-in-Ended.new.self network c.close-in-Ended.new.notes, closed, refl),
+          (new, closed, refl),
         );
-        reads = inr (inl (Closes number HasEnded ∷ [], refl, inr (inr (HasEnded, refl))));
+        reads = inr (inr (inl (c.in-Ok.moved, Closes number HasEnded ∷ [], refl, has_ended number c.in-Ok.moved (λ done. HandlesOne number done new) c.in-Ended.is)));
       },
       λ none. absurd (let clash : true ≡ false = none in cc),
     )
@@ -75,17 +78,12 @@ returns-in-Some-clause-reads g c =
       subst (λ (octets : List ℕ). HasHandedOver now octets handed.0 handed.1) (sym c.deref.ensures.value) handed.3,
       ap (standing c.args.primary.now c.args.network.now c.args.notes.now) handed.4,
     )
-    (λ m kept. c.step-effects.ensures.step m kept) refl c.deliver.ensures.happened.1 in (
-      Moves number ∷ Happens (Arrives number octets) c.step-effects.result goings ∷ [],
-      record {
-        are = (
-          mid,
-          moves g.S.Stream g.N.Network g.L.Notes now number c.in-Ok.moved c.args.primary.now c.args.network.now c.args.notes.now here there
-              (moved_there g.S.Stream now number c.in-Ok.moved here there opened (c.in-Ok.ensures.moved now)),
-          (new, handles, refl),
-        );
-        reads = inr (inl (Happens (Arrives number octets) c.step-effects.result goings ∷ [], refl, inl (octets, c.step-effects.result, goings, refl)));
-      },
+    (λ m kept. c.step-effects.ensures.step m kept) refl c.deliver.ensures.happened.1 in
+    let (moments, reads, idle) = read_then g.S.Stream g.N.Network g.L.Notes now number c.in-Ok.moved (Happens (Arrives number octets) c.step-effects.result goings ∷ [])
+    c.args.primary.now c.args.network.now c.args.notes.now here there new c.in_default-moved.not-Ended (c.in-Ok.ensures.moved now) (inl opened) (new, handles, refl)
+    (inl (octets, c.step-effects.result, goings, refl)) in (
+      moments,
+      reads,
       λ none. absurd (let clash : true ≡ false = none in cc),
     )
 
@@ -102,23 +100,23 @@ returns-then-is_silent-clause-reads g c =
     let silent = subst (λ (cs : List (Option (Connection g.row.S.Denot))). IsOpenWith (IsSilent now) (slice_get cs number)) still
     (c.is_silent.ensures.0 c.if-is_silent.true) in
     let opened = open_with (IsSilent now) (slice_get there number) silent in
+    let ended = served c.close-then-is_silent.new.primary c.close-then-is_silent.new.self network c.close-then-is_silent.new.notes in
     let closed = closes g.S.Stream g.N.Network g.L.Notes now number Silent c.args.primary.now c.close-then-is_silent.new.primary network c.args.notes.now c.args.notes.now c.close-then-is_silent.new.notes there new
-    silent refl c.close-then-is_silent.ensures.told gone c.close-then-is_silent.ensures.noted in (
-      Moves number ∷ Closes number Silent ∷ [],
-      record {
-        are = (
-          standing c.args.primary.now network c.args.notes.now there,
-          moves g.S.Stream g.N.Network g.L.Notes now number c.in-Ok.moved c.args.primary.now network c.args.notes.now here there
-              (moved_there g.S.Stream now number c.in-Ok.moved here there opened (c.in-Ok.ensures.moved now)),
-          (served c.close-then-is_silent.new.primary c.close-then-is_silent.new.self network c.close-then-is_silent.new.notes, closed, refl),
-        );
-        reads = inr (inl (Closes number Silent ∷ [], refl, inr (inr (Silent, refl))));
-      },
+    silent refl c.close-then-is_silent.ensures.told gone c.close-then-is_silent.ensures.noted in
+    let (moments, reads, idle) = read_then g.S.Stream g.N.Network g.L.Notes now number c.in-Ok.moved (Closes number Silent ∷ []) c.args.primary.now network c.args.notes.now
+    here there ended c.in_default-moved.not-Ended (c.in-Ok.ensures.moved now) (inl opened) (ended, closed, refl) (inr (inr refl)) in (
+      moments,
+      reads,
       λ none. absurd (let clash : true ≡ false = none in cc),
     )
 
 pub returns-clause-reads : goal.returns-clause-reads
 returns-clause-reads g c =
+    let waited = λ (none_done : c.ne.result ≡ false). elim c.in-Ok.moved as (λ m. c.in-Ok.moved ≡ m → m ≡ Later) [
+      | Octets count ↦ λ is. absurd (let told : c.ne.result ≡ true = rw is at c.ne.ensures in let clash : true ≡ false = sym told ∙ none_done in cc)
+      | Later ↦ λ is. refl
+      | Ended ↦ λ is. absurd (c.in_default-moved.not-Ended is)
+    ] refl in
     let now = c.args.now in
     let number = c.args.number in
     let here = connections_of c.args.self.now in
@@ -126,29 +124,14 @@ returns-clause-reads g c =
     let new = places_of c.next_message.new.self in
     let standing_as = standing c.args.primary.now c.args.network.now c.args.notes.now in
     let (same, none) = c.in_default-next_message.ensures in
-    elim (c.in-Ok.ensures.moved now) [
-      | inl (closed, lasts, still) ↦ (
-        [],
-        record { are = ap standing_as (same ∙ still); reads = inl (closed, refl) },
-        λ idle. tt,
-      )
-      | inr on ↦ (
-        Moves number ∷ [],
-        record {
-          are = (standing_as there, moves g.S.Stream g.N.Network g.L.Notes now number c.in-Ok.moved c.args.primary.now c.args.network.now c.args.notes.now here there on, ap standing_as same);
-          reads = inr (inl (
-            [],
-            refl,
-            inr (inl (
-              refl,
-              subst (λ (cs : List (Option (Connection g.row.S.Denot))). IsGoneOr (λ e. held_of e ≡ []) (slice_get cs number)) (sym same)
-                  (none_held (slice_get there number) none),
-            )),
-          ));
-        },
-        λ idle. (tt, tt),
-      )
-    ]
+    let held = subst (λ (cs : List (Option (Connection g.row.S.Denot))). IsGoneOr (λ e. held_of e ≡ []) (slice_get cs number)) (sym same)
+    (none_held (slice_get there number) none) in
+    let (moments, reads, idle) = read_then g.S.Stream g.N.Network g.L.Notes now number c.in-Ok.moved [] c.args.primary.now c.args.network.now c.args.notes.now
+    here there (standing_as new) c.in_default-moved.not-Ended (c.in-Ok.ensures.moved now) (inr refl) (ap standing_as same) (inr (inl (refl, held))) in (
+      moments,
+      reads,
+      λ nothing. idle (waited nothing) tt,
+    )
 
 pub returns-in_default-clause-silent : goal.returns-in_default-clause-silent
 returns-in_default-clause-silent g c = λ silent. is_gone (IsInUse c.args.now) c.args.number (places_of c.read.new.self) (connections_of c.close.new.self) c.close.ensures.gone

@@ -1,5 +1,6 @@
 use Rattle.std.proofs.Common.{◌≡◌, ◌∙◌, inl, inr, Bool, true, false, [], ◌∷◌, refl, sym, subst}
 use Rattle.std.specs.Prelude.{is_some, slice_get}
+use Rattle.dns_network.specs.declared.stream.Moved.TheVariants.{Octets, Later, Ended}
 use Rattle.dns_primary.specs.Step.{Pump}
 use Rattle.dns_network.specs.Closing.{HasEnded, Stalled}
 use Rattle.dns_network.specs.Connection.{IsInUse, IsStalled, used_of}
@@ -7,7 +8,8 @@ use Rattle.dns_network.specs.Connections.{IsOpenWith, HasPumped, has_left_at, is
 use Rattle.dns_network.specs.Delivery.{connections_of, served}
 use Rattle.dns_network.specs.Turn.{Closes, Happens, Moves}
 use Rattle.dns_network.proofs.Leads.{closes, ends, moves, standing}
-use Rattle.dns_network.proofs.Parts.{clashes, is_none, left_open, moved_ended, moved_open}
+use Rattle.dns_network.specs.Turns.{MayStall}
+use Rattle.dns_network.proofs.Parts.{clashes, has_ended, is_none, left_open, moved_ended, moved_open, not_ended}
 use Rattle.dns_network.proofs.Used.{after_pump, is_gone, not_open, pumped_in_use, unused_left, stalled_left, written_now}
 use Rattle.dns_network.proofs.edge.Edge.serve_connection.Goals as goal
 
@@ -37,7 +39,7 @@ returns-in-Ended-clause-part g c =
     let left : has_left_at (slice_get here number) ≡ true = sym c.has_left.ensures ∙ c.if-has_left.true in
     let closed = closes g.S.Stream g.N.Network g.L.Notes now number HasEnded c.args.primary.now c.close.new.primary network c.args.notes.now c.args.notes.now c.close.new.notes there (connections_of c.close.new.self)
     (ends g.S.Stream now number c.write-moved.result here there c.in-Ended.is c.write-moved.ensures) refl c.close.ensures.told c.close.ensures.gone c.close.ensures.noted in (
-      Moves number ∷ Closes number HasEnded ∷ [],
+      Moves number c.write-moved.result ∷ Closes number HasEnded ∷ [],
       record {
         are = (
           standing c.args.primary.now network c.args.notes.now there,
@@ -46,7 +48,7 @@ returns-in-Ended-clause-part g c =
           (served c.close.new.primary c.close.new.self network c.close.new.notes, closed, refl),
         );
         closed = λ no. clashes (is_open_at (slice_get here number)) (left_open (slice_get here number) left) no;
-        left = λ is. (Closes number HasEnded ∷ [], refl, inr (HasEnded, refl));
+        left = λ is. (c.write-moved.result, Closes number HasEnded ∷ [], refl, has_ended number c.write-moved.result (MayStall number) c.in-Ended.is);
         none_left = λ opened no. clashes (has_left_at (slice_get here number)) left no;
       },
       λ none. absurd (let clash : true ≡ false = none in cc),
@@ -63,7 +65,7 @@ returns-then-is_stalled-clause-part g c =
     let opened = left_open (slice_get here number) left in
     let closed = closes g.S.Stream g.N.Network g.L.Notes now number Stalled c.args.primary.now c.close-then-is_stalled.new.primary network c.args.notes.now c.args.notes.now c.close-then-is_stalled.new.notes there
     (connections_of c.close-then-is_stalled.new.self) (c.is_stalled.ensures.0 c.if-is_stalled.true) refl c.close-then-is_stalled.ensures.told c.close-then-is_stalled.ensures.gone c.close-then-is_stalled.ensures.noted in (
-      Moves number ∷ Closes number Stalled ∷ [],
+      Moves number c.write-moved.result ∷ Closes number Stalled ∷ [],
       record {
         are = (
           standing c.args.primary.now network c.args.notes.now there,
@@ -72,7 +74,7 @@ returns-then-is_stalled-clause-part g c =
           (served c.close-then-is_stalled.new.primary c.close-then-is_stalled.new.self network c.close-then-is_stalled.new.notes, closed, refl),
         );
         closed = λ no. clashes (is_open_at (slice_get here number)) opened no;
-        left = λ is. (Closes number Stalled ∷ [], refl, inr (Stalled, refl));
+        left = λ is. (c.write-moved.result, Closes number Stalled ∷ [], refl, not_ended number c.write-moved.result (MayStall number) (Closes number Stalled ∷ []) c.in_default.not-Ended (inr refl));
         none_left = λ is no. clashes (has_left_at (slice_get here number)) left no;
       },
       λ none. absurd (let clash : true ≡ false = none in cc),
@@ -84,8 +86,13 @@ returns-then-has_left-clause-part g c =
     let here = connections_of c.args.self.now in
     let there = places_of c.write-moved.new.self in
     let left : has_left_at (slice_get here number) ≡ true = sym c.has_left.ensures ∙ c.if-has_left.true in
-    let opened = left_open (slice_get here number) left in (
-      Moves number ∷ [],
+    let opened = left_open (slice_get here number) left in
+    let waited = λ (none_done : c.ne.result ≡ false). elim c.write-moved.result as (λ m. c.write-moved.result ≡ m → m ≡ Later) [
+      | Octets count ↦ λ is. absurd (let told : c.ne.result ≡ true = rw is at c.ne.ensures in let clash : true ≡ false = sym told ∙ none_done in cc)
+      | Later ↦ λ is. refl
+      | Ended ↦ λ is. absurd (c.in_default.not-Ended is)
+    ] refl in (
+      Moves number c.write-moved.result ∷ [],
       record {
         are = (
           standing c.args.primary.now c.args.network.now c.args.notes.now there,
@@ -94,10 +101,10 @@ returns-then-has_left-clause-part g c =
           refl,
         );
         closed = λ no. clashes (is_open_at (slice_get here number)) opened no;
-        left = λ is. ([], refl, inl refl);
+        left = λ is. (c.write-moved.result, [], refl, not_ended number c.write-moved.result (MayStall number) [] c.in_default.not-Ended (inl refl));
         none_left = λ is no. clashes (has_left_at (slice_get here number)) left no;
       },
-      λ idle. (tt, tt),
+      λ idle. (waited idle, tt),
     )
 
 -- where none are

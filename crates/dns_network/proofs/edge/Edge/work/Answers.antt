@@ -1,4 +1,4 @@
-use Rattle.std.proofs.Common.{◌≡◌, Bool, true, false, [], ◌∷◌, ◌++◌, Some, refl, inr}
+use Rattle.std.proofs.Common.{◌≡◌, true, false, [], ◌∷◌, ◌++◌, Some, refl, inr}
 use Rattle.dns_primary.specs.Step.{Flush}
 use Rattle.dns_network.specs.Delivery.{rested_of, served}
 use Rattle.dns_network.specs.Turn.{Asks, Happens}
