@@ -2,10 +2,14 @@
 //! that is refused.
 #![tactic(auto)]
 
+mod call_list;
 mod device_faults;
 mod devices;
+mod memory_devices;
 mod stores;
 
+pub use call_list::{CallList, Twin};
 pub use device_faults::{DeviceFault, refusal, tell_device};
 pub use devices::{Devices, Disk, NewDevices};
+pub use memory_devices::{MemoryDevices, NewTwin};
 pub use stores::{open_store, open_zone};
