@@ -4,8 +4,10 @@
 
 mod device_faults;
 mod devices;
+mod devices_to_read;
 mod stores;
 
 pub use device_faults::{DeviceFault, refusal, tell_device};
 pub use devices::{Devices, Disk, NewDevices};
+pub use devices_to_read::DevicesToRead;
 pub use stores::{open_store, open_zone};
