@@ -148,6 +148,8 @@ impl<R: Net + Clock> Stream for TcpSocket<'_, R> {
 
     ghost has_ended = { λ _. Unit {0} };
 
+    ghost answers = { λ _ _ _. Unit {0} };
+
     /// Where no second is left nothing is read, so that a server that never pauses is given up like one that
     /// sends too slowly.
     fn read(&mut self, into: &mut [u8]) -> Moved {
