@@ -1,9 +1,11 @@
 -- How a server ends, by what its parts told.
-use Rattle.std.proofs.Common.{◌≡◌, ℕ, true, false, suc, inl, inr, List, [], ◌∷◌, ◌++◌, map, Option, Result, Ok, Err, IfOk, refl, sym, ap, ◌∙◌, arith, subst, append-nil}
+use Rattle.std.proofs.Common.{◌≡◌, ℕ, true, false, zero, suc, inl, inr, List, [], ◌∷◌, ◌++◌, map, Option, Result, Ok, Err, IfOk, refl, sym, ap, ◌∙◌, arith, subst, ◌<◌, ◌≤◌, append-nil, length}
+use Rattle.std.proofs.lemmas.List.{length-map}
 use Rattle.std.specs.Prelude.{◌⊎◌, MatchResult}
 use Rattle.std.specs.Option.{option_copied}
 use Rattle.std.specs.Result.{IsErr, result_unwrap_or}
 use Rattle.std.specs.Io.KnownBytes.{Appends}
+use Rattle.dns_zone.specs.Zone.{Zone}
 use Rattle.dns_zone.specs.declared.index.ZoneIndex as index
 use Rattle.dns_sectors.specs.Device.{Content, LeavesOnly}
 use Rattle.dns_sectors.specs.declared.device.Sectors.{Ghosts}
@@ -26,7 +28,7 @@ use Rattle.dns_versions.specs.Each.{Each2}
 use Rattle.dns_primary.specs.HandOut.{AreSetAs}
 use Rattle.dns_primary.specs.Keeps.{IsKept}
 use Rattle.dns_primary.specs.Machine.{Machine, ZoneState}
-use Rattle.dns_primary.specs.Open.{AreRecoverable, AreRecoverableAnew, LeaveRecovered, devices_of}
+use Rattle.dns_primary.specs.Open.{AreOpened, AreRecoverable, AreRecoverableAnew, LeaveRecovered, count_of, devices_of}
 use Rattle.dns_primary.specs.Runs.{Moment, Took, Stopped, Configured, Run, last_of}
 use Rattle.dns_primary.specs.Step.{Event}
 use Rattle.dns_primary.specs.Stop.{IsMaking, IsStopped, OpensAsRecovered}
@@ -39,8 +41,8 @@ use Rattle.dns_network.specs.Turn.{TurnMoment}
 use Rattle.dns_network.specs.Runs.{IsStepOf, Told, told_by}
 use Rattle.dns_service.specs.Log.{IsLogOf, zone_lines}
 use Rattle.dns_service.specs.declared.server.ServeOptions.{ServeOptions}
-use Rattle.dns_service.specs.Opening.{IsNotServed, IsOpenedAs, IsServed, OfRecovered, closings}
-use Rattle.dns_service.specs.Serve.{AreServedFrom, HaveServed, IsRefusalTold, IsServedFor, IsServedSomehow, IsServingTried, ServingEnds}
+use Rattle.dns_service.specs.Opening.{AreIntact, IsNotServed, IsOpenedAs, IsServed, closings}
+use Rattle.dns_service.specs.Serve.{AreLetGo, AreServedFrom, HaveServed, IsRefusalTold, IsServedFor, IsServedSomehow, IsServingTried, ServingEnds}
 use Rattle.dns_service.specs.ServedTurns.{HasRun, HasTurned, HaveRun, IsLedTo}
 
 pub at_ok : {A E : Type 0} (r : Result A E) (P : A → Type 0) (x : A) → r ≡ Ok x → IfOk r P → P x
@@ -143,6 +145,7 @@ module _ {D I : Type 0} (g : Ghosts D) {i : index.Ghosts I} {s : store.Ghosts (K
       given = is.given;
       known = is.known;
       settings = is.settings;
+      intact = is.intact;
       recovered = λ m event tries may.
           let to = is.recovered m event tries may in
           let turned = run to.0 to.2.0 in
@@ -162,25 +165,63 @@ module _ {D I : Type 0} (g : Ghosts D) {i : index.Ghosts I} {s : store.Ghosts (K
       given = is.given;
       known = is.known;
       settings = is.settings;
+      intact = is.intact;
       recovered = λ m event tries may.
           let to = is.recovered m event tries may in
           (to.0, to.1, led turns m event tries may to.0 to.1 to.2 (run to.0 to.2.0));
     };
   }
 
--- Memory was refused when the devices were to be closed.
-pub let_go : {D : Type 0} (g : Ghosts D) (opening calls : List (DeviceCall D)) (config : File) (c : Configuration) (options : ServeOptions) (says : OfRecovered D) (err err_after : Option (List ℕ)) → HoldsConfiguration (option_copied config.octets) (Ok c) → IsServed g opening c.zones.items says → calls ≡ [] → ServingEnds g (opening ++ calls) config options err err_after 3
-let_go {D = D} g opening calls config c options says err err_after holds is none =
+-- Devices that were opened as zones were intact.
+pub all_intact : {D I : Type 0} {g : Ghosts D} (n : ℕ) (apexes : List Labels) (settings : List ZoneSpec) (devices : List D) (zones : List Zone) (pending : List (PendingZone I (KeptStore D I g))) → n ≡ length settings → length apexes ≡ length settings → length devices ≡ length settings
+    → AreOpened n apexes settings devices zones pending → AreIntact g apexes settings devices
+all_intact n [] [] [] zones pending count named many h = tt
+all_intact n (a ∷ apexes) [] devices zones pending count named many h = absurd (omega (arith, named))
+all_intact n [] [] (d ∷ devices) zones pending count named many h = absurd (omega (arith, many))
+all_intact n [] (s ∷ settings) devices zones pending count named many h = absurd (omega (arith, named))
+all_intact n (a ∷ apexes) (s ∷ settings) [] zones pending count named many h = absurd (omega (arith, many))
+all_intact zero (a ∷ apexes) (s ∷ settings) (d ∷ devices) zones pending count named many h = absurd (omega (arith, count))
+all_intact (suc n) (a ∷ apexes) (s ∷ settings) (d ∷ devices) (z ∷ zones) (b ∷ pending) count named many h =
+    (h.0.intact, all_intact n apexes settings devices zones pending (omega (arith, count)) (omega (arith, named)) (omega (arith, many)) h.1)
+all_intact (suc n) (a ∷ apexes) (s ∷ settings) (d ∷ devices) [] pending count named many h = absurd h
+all_intact (suc n) (a ∷ apexes) (s ∷ settings) (d ∷ devices) (z ∷ zones) [] count named many h = absurd h
+
+-- As many stores as there were at the start of a run.
+as_many_left : {I S : Type 0} (s : store.Ghosts S) (place : ℕ) (m : Machine) (run : List Moment) (olds news : List (PendingZone I S)) → AreLeftFrom s place m run olds news → length news ≡ length olds
+as_many_left s place m run [] [] h = refl
+as_many_left s place m run (a ∷ olds) (b ∷ news) h = ap suc (as_many_left s (suc place) m run olds news h.1)
+as_many_left s place m run [] (b ∷ news) h = absurd h
+as_many_left s place m run (a ∷ olds) [] h = absurd h
+
+as_many_recovered : {D : Type 0} (g : Ghosts D) (tries : ℕ) (m : Machine) (event : Event) (place : ℕ) (zones : List ZoneState) (olds news : List D) → LeaveRecovered g tries m event place zones olds news → length news ≡ length olds
+as_many_recovered g tries m event place [] [] [] h = refl
+as_many_recovered g tries m event place (z ∷ zones) (d ∷ olds) (e ∷ news) h = ap suc (as_many_recovered g tries m event (suc place) zones olds news h.1)
+as_many_recovered g tries m event place [] (d ∷ olds) news h = absurd h
+as_many_recovered g tries m event place [] [] (e ∷ news) h = absurd h
+as_many_recovered g tries m event place (z ∷ zones) [] news h = absurd h
+as_many_recovered g tries m event place (z ∷ zones) (d ∷ olds) [] h = absurd h
+
+-- There was no room for the devices, though there was for one of each zone.
+pub let_go : {D I : Type 0} (g : Ghosts D) {i : index.Ghosts I} {s : store.Ghosts (KeptStore D I g)} (opening calls : List (DeviceCall D)) (config : File) (c : Configuration) (options : ServeOptions) (old new : Primary I (KeptStore D I g) i s) (room : ℕ) (err err_after : Option (List ℕ))
+    → HoldsConfiguration (option_copied config.octets) (Ok c) → IsServed g opening c.zones.items (IsOpenedAs old) → HasRun (λ m. IsKept old m) (IsLedTo old new) → calls ≡ [] → room < count_of new → length c.zones.items ≤ room → ServingEnds g (opening ++ calls) config options err err_after 3
+let_go {D = D} {I = I} g {s = s} opening calls config c options old new room err err_after holds is (turns, run) none few there =
     let gone : opening ++ calls ≡ opening = ap (λ (t : List (DeviceCall D)). opening ++ t) none ∙ append-nil opening in
     serving_failed g (opening ++ calls) config options err err_after (inr (
       c,
       holds,
-      inr (inr (subst (λ (t : List (DeviceCall D)). IsServed g t c.zones.items (λ _ _ _ _ _ _. Unit {0})) (sym gone) (record {
+      inr (inr (subst (λ (t : List (DeviceCall D)). AreLetGo g t c.zones.items) (sym gone) (record {
         devices = is.devices;
         given = is.given;
         known = is.known;
         settings = is.settings;
-        recovered = λ m event tries may. let to = is.recovered m event tries may in (to.0, to.1, tt);
+        intact = is.intact;
+        recovered = λ m event tries may.
+            let to = is.recovered m event tries may in
+            let ran = run to.0 to.2.0 in
+            let left = as_many_left {I = I} s 0 to.0 ran.0 old.pending.items new.pending.items ran.2.1 in
+            let opened = as_many_recovered g (suc tries) m event 0 m.zones is.devices (devices_of old) to.2.1 in
+            let same = length-map old.pending.items (λ (b : PendingZone I (KeptStore D I g)). store_device b.store) in
+            absurd (omega (arith, few, there, left, opened, same, is.given.0));
       }))),
     ))
 

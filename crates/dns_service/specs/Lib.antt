@@ -1,6 +1,8 @@
 pub mod DatagramSockets
 pub mod Listeners
 pub mod Log
+pub mod MemoryPeers
+pub mod MemorySockets
 pub mod Opening
 pub mod Peers
 pub mod Places

@@ -3,6 +3,7 @@ use Rattle.std.specs.Prelude.{◌≡◌, ◌⊎◌, ℕ, zero, suc, List, [], �
 use Rattle.std.specs.Prelude.{MatchOption}
 use Rattle.std.specs.List.{AllZip}
 use Rattle.std.specs.String.{string_bytes}
+use Rattle.dns_names.specs.Name.{Labels}
 use Rattle.dns_sectors.specs.declared.device.Sectors.{Ghosts}
 use Rattle.dns_store.specs.declared.root.OpenError.{OpenError}
 use Rattle.dns_primary.specs.Machine.{Machine}
@@ -10,7 +11,8 @@ use Rattle.dns_zone.specs.declared.index.ZoneIndex as index
 use Rattle.dns_store.specs.declared.kept_store.KeptStore.{KeptStore}
 use Rattle.dns_store.specs.declared.zone_store.ZoneStore as store
 use Rattle.dns_primary.specs.Keeps.{IsKept}
-use Rattle.dns_primary.specs.Open.{AreRecoverable, AreRefused, LeaveRecovered, devices_of}
+use Rattle.dns_primary.specs.Open.{AreRecoverable, AreRefused, IsIntactAs, LeaveRecovered, devices_of}
+use Rattle.dns_primary.specs.Open.{shape_of}
 use Rattle.dns_primary.specs.declared.primary.Primary.{Primary}
 use Rattle.dns_primary.specs.Step.{Event}
 use Rattle.dns_primary.specs.Stop.{IsStopped}
@@ -67,14 +69,23 @@ pub record IsNotGiven {D : Type 0} (calls : List (DeviceCall D)) (zones : List Z
 abbrev pub OfRecovered : Type 0 → Type 1
 OfRecovered D = List D → List primary.ZoneSpec → Machine → Event → ℕ → Machine → Type 0
 
--- The stores of the devices that were opened were opened: on those of a machine that stopped, this is said of
--- one that recovered from that stop, of zones with these settings.
+-- The first sector of each device is a root of its zone and of the sizes of its store, and of the sectors
+-- that reading reaches each is zeros or its own.
+abbrev pub AreIntact : {D : Type 0} → Ghosts D → List Labels → List primary.ZoneSpec → List D → Type 0
+AreIntact g [] [] [] = Unit {0}
+AreIntact g (a ∷ apexes) (s ∷ settings) (d ∷ devices) =
+    IsIntactAs g (shape_of a s) d × AreIntact g apexes settings devices
+AreIntact g _ _ _ = ⊥
+
+-- The stores of the devices that were opened were opened, which were intact: on those of a machine that
+-- stopped, this is said of one that recovered from that stop, of zones with these settings.
 pub record IsServed {D : Type 0} (g : Ghosts D) (calls : List (DeviceCall D)) (zones : List ZoneSettings)
     (says : OfRecovered D) : Type 0 where
   pub devices : List D
   pub given : AreGiven calls zones devices
   pub known : List primary.ZoneSpec
   pub settings : AllZip IsSettingOf zones known
+  pub intact : AreIntact g (origins_of zones) known devices
   pub recovered : (m : Machine) (event : Event) (tries : ℕ)
       → AreRecoverable g tries m event 0 m.zones (origins_of zones) known devices
       → (new : Machine) × IsStopped tries m event new × says devices known m event tries new

@@ -113,9 +113,9 @@ pub record IsServedSomehow {D : Type 0} (g : Ghosts D) (calls : List (DeviceCall
   pub turns : List (List TurnMoment)
   pub served : IsServed g opening zones (HaveServed g turns zones back)
 
--- The stores were opened, and memory for the list of the devices was refused when they were to be closed.
+-- The stores were opened, and the devices were not closed, which are those of no machine that stopped.
 abbrev pub AreLetGo : {D : Type 0} → Ghosts D → List (DeviceCall D) → List ZoneSettings → Type 0
-AreLetGo g calls zones = IsServed g calls zones (λ _ _ _ _ _ _. Unit {0})
+AreLetGo g calls zones = IsServed g calls zones (λ _ _ _ _ _ _. ⊥)
 
 -- The calls of a server: none; or devices of the zones of its configuration were opened, of which one was
 -- refused, or which it served.

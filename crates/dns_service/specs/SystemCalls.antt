@@ -1,7 +1,6 @@
 -- The calls of the system on sockets, and what they answered.
-use Rattle.std.specs.Prelude.{◌≡◌, ◌≢◌, ◌++◌, ◌∷◌, [], ℕ, List, Option, Some, None, Result, Ok, Err, take}
+use Rattle.std.specs.Prelude.{◌≡◌, ◌≢◌, ◌∷◌, [], ℕ, List, Option, Some, None, Result, Ok, Err, take}
 use Rattle.std.specs.declared.io.Error.{Error}
-use Rattle.std.specs.declared.io.ErrorKind.{ErrorKind}
 use Rattle.std.specs.declared.io.ErrorKind.TheVariants as kind
 use Rattle.std.specs.declared.net.socket_addr.SocketAddr.{SocketAddr}
 use Rattle.std.specs.IoError.{error_kind}
@@ -43,30 +42,7 @@ accepted_in [] = []
 accepted_in (Accept (Some one) ∷ rest) = one ∷ accepted_in rest
 accepted_in (Accept None ∷ rest) = accepted_in rest
 
--- A call on a stream: it was read, or written to, and these octets moved, or there was an error of this kind.
-pub data StreamCall : Type 0 where
-  Read : Result (List ℕ) ErrorKind → StreamCall
-  Write : Result (List ℕ) ErrorKind → StreamCall
-
--- So many octets at the front of these moved, or there was an error.
-abbrev pub moved_of : List ℕ → Result ℕ Error → Result (List ℕ) ErrorKind
-moved_of octets (Ok count) = Ok (take count octets)
-moved_of octets (Err error) = Err (error_kind error)
-
--- The octets that were read in these calls, and those that were written.
-abbrev pub read_in : List StreamCall → List ℕ
-read_in [] = []
-read_in (Read (Ok octets) ∷ rest) = octets ++ read_in rest
-read_in (Read (Err error) ∷ rest) = read_in rest
-read_in (Write moved ∷ rest) = read_in rest
-
-abbrev pub written_in : List StreamCall → List ℕ
-written_in [] = []
-written_in (Read moved ∷ rest) = written_in rest
-written_in (Write (Ok octets) ∷ rest) = octets ++ written_in rest
-written_in (Write (Err error) ∷ rest) = written_in rest
-
 -- The stream ended, or failed: no octet moved, or there was an error that doesn't pass.
-abbrev pub IsEnd : Result (List ℕ) ErrorKind → Type 0
-IsEnd (Ok octets) = octets ≡ []
-IsEnd (Err error) = (error ≢ kind.WouldBlock) × (error ≢ kind.Interrupted)
+abbrev pub IsEnd : Result ℕ Error → Type 0
+IsEnd (Ok count) = count ≡ 0
+IsEnd (Err error) = (error_kind error ≢ kind.WouldBlock) × (error_kind error ≢ kind.Interrupted)

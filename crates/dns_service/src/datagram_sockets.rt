@@ -115,3 +115,66 @@ impl<C: DatagramCalls + Drop> DatagramSockets<C> {
         }
     }
 }
+
+#[cfg(test)]
+mod tests {
+    use super::*;
+    use crate::memory_sockets::MemoryDatagrams;
+    use dns_memory::heap;
+    use std::cell::Cell;
+    use std::io;
+    use std::net::{IpAddr, Ipv4Addr, SocketAddr};
+    use std::rc::Rc;
+    use std::test::Fail;
+
+    /// A socket in memory, with a place for how many octets it sent.
+    #[derive(Drop)]
+    struct Counted {
+        socket: MemoryDatagrams,
+        sent: Rc<Cell<usize>, Heap>,
+    }
+
+    impl DatagramCalls for Counted {
+        ghost calls = { λ counted. ⟦<MemoryDatagrams as DatagramCalls>⟧.calls counted.socket };
+
+        fn recv_from(&mut self, into: &mut [u8]) -> io::Result<(usize, SocketAddr)> {
+            self.socket.recv_from(into)
+        }
+
+        fn send_to(&mut self, octets: &[u8], to: SocketAddr) -> io::Result<usize> {
+            self.sent.set(octets.len());
+            self.socket.send_to(octets, to)
+        }
+    }
+
+    #[test]
+    fn a_datagram_is_answered_by_the_socket_by_which_it_came(rt: HostRuntime) -> Result<(), Fail> {
+        let heap = heap(rt.alloc())?;
+        let from = SocketAddr::new(IpAddr::V4(Ipv4Addr::new(192, 0, 2, 1)), 5353);
+        let by_first = Rc::new(heap, Cell::new(0))?;
+        let by_second = Rc::new(heap, Cell::new(0))?;
+        let first = MemoryDatagrams::new(heap);
+        let mut second = MemoryDatagrams::new(heap);
+        second.give(b"query", from)?;
+        let mut sockets = DatagramSockets::new(heap);
+        let counted = Counted {
+            socket: first,
+            sent: by_first.clone()?,
+        };
+        sockets.add(heap, counted, false)?;
+        let counted = Counted {
+            socket: second,
+            sent: by_second.clone()?,
+        };
+        assert!(rt; sockets.count() < 256);
+        sockets.add(heap, counted, false)?;
+        let mut buffer = [0; 512];
+        let (count, peer) = sockets.receive(&mut buffer).ok_or("none came")?;
+        assert_eq!(rt; &buffer[..count], b"query".as_slice());
+        sockets.send(peer, b"answer");
+        sockets.send_all();
+        assert_eq!(rt; by_first.get(), 0);
+        assert_eq!(rt; by_second.get(), 6);
+        Ok(())
+    }
+}

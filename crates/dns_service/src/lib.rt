@@ -4,6 +4,8 @@
 mod datagram_sockets;
 mod listeners;
 mod log;
+mod memory_peer;
+mod memory_sockets;
 mod opening;
 mod peers;
 mod readiness;

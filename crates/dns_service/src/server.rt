@@ -1,5 +1,5 @@
 //! A server over devices and sockets.
-ghost use Rattle.std.specs.Prelude.{◌≡◌, ◌⊎◌, [], IfOk, MatchResult, OnOk};
+ghost use Rattle.std.specs.Prelude.{◌≡◌, ◌⊎◌, ◌<◌, [], IfOk, MatchResult, OnOk, vec_capacity};
 ghost use Rattle.std.specs.Result.{result_unwrap_or};
 ghost use Rattle.std.specs.Io.KnownBytes.{Appends};
 ghost use Rattle.dns_service.specs.Log.{IsLogOf, listening_lines, zone_line, zone_lines};
@@ -8,6 +8,7 @@ ghost use Rattle.dns_service.specs.ServedTurns.{HasPaused, HasRun, HasTurned, Is
 ghost use Rattle.dns_configuration.specs.Calls.{Calls};
 ghost use Rattle.dns_primary.specs.Keeps.{IsKept};
 ghost use Rattle.dns_primary.specs.Machine.{Machine};
+ghost use Rattle.dns_primary.specs.Open.{count_of};
 
 use crate::log::{Counts, Log};
 use crate::opening::{Refusal, close_all, open_primary};
@@ -293,18 +294,20 @@ fn tell_refusal<E: Write>(
     }
 }
 
-/// Takes a primary apart into the devices of its zones, and closes these. If memory for their list is refused
-/// they are let go.
+/// Takes a primary apart into the devices of its zones, in a list that may have room for them, and closes
+/// these. They are let go only if it has none, and memory for more is refused.
 fn close_primary<D: Sectors + Drop, F: Devices<D>, I: ZoneIndex>(
-    heap: Heap,
     devices: &mut F,
     zones: &[ZoneSettings],
     primary: Primary<I, KeptStore<D, I>>,
+    room: Vec<D, Heap>,
 ) -> Result<(), AllocError>
+    requires { room.items ≡ [] }
     ensures { Calls (F.calls devices.old) (F.calls devices.new) (λ calls. MatchResult result
-        (λ _. ArePrimaryClosed calls zones.now primary) (λ _. calls ≡ [])) }
+        (λ _. ArePrimaryClosed calls zones.now primary)
+        (λ _. (calls ≡ []) × (vec_capacity room.entry < count_of primary))) }
 {
-    let mut back = Vec::new(heap);
+    let mut back = room;
     back.reserve_exact(primary.zone_count())?;
     primary.into_devices(&mut back);
     close_all(devices, zones, back);
@@ -330,6 +333,7 @@ fn serve_all<D: Sectors + Drop, F: Devices<D>, I: ZoneIndex, R: Net + Clock, E: 
         Err(fault) => return tell(err, config.path, fault),
     };
     let origins = origins_of(heap, &configuration.zones)?;
+    let room = Vec::with_capacity(heap, configuration.zones.len())?;
     match open_primary::<D, F, I>(heap, devices, &configuration.zones, &origins) {
         Ok(mut primary) => {
             let service = Service {
@@ -341,7 +345,7 @@ fn serve_all<D: Sectors + Drop, F: Devices<D>, I: ZoneIndex, R: Net + Clock, E: 
                 is_quiet: options.is_quiet,
             };
             let status = serve_as(&mut primary, &service, err);
-            close_primary(heap, devices, &configuration.zones, primary)?;
+            close_primary(devices, &configuration.zones, primary, room)?;
             Ok(status)
         }
         Err(refusal) => tell_refusal(err, &configuration.zones, refusal, options.explain),
@@ -370,8 +374,10 @@ pub struct ServeOptions {
 /// Faults are reported in one line, the first in this order: the configuration, the devices (of which, if it
 /// is wanted, a second line says what can be done), the addresses (`ADDRESS: Unavailable`). Gives the exit
 /// status: `DONE`, `REFUSED`, or `FAILED` where a device or an address can't be had, a writer failed or
-/// memory was refused. The devices are closed as the last turn left them, or as they came if one of them is
-/// refused, but for how often they were opened.
+/// memory was refused. It serves only if each device is intact: its first sector is a root of its zone and of
+/// the sizes of its store, and each sector that is read is its own or zeros. The devices are closed as the
+/// last turn left them, or as they came if one of them is refused, but for how often they were opened; memory
+/// for their list is had before the first is opened.
 pub fn serve<D: Sectors + Drop, F: Devices<D>, I: ZoneIndex, R: Net + Clock, E: Write>(
     alloc: Global,
     heap: Heap,

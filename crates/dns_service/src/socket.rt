@@ -1,10 +1,10 @@
 //! The stream of a connection.
-ghost use Rattle.std.specs.Prelude.{◌≡◌, ◌<◌, ℕ, List, IsSome, IsTrue, Some};
+ghost use Rattle.std.specs.Prelude.{◌≡◌, ◌<◌, [], IsSome, IsTrue, Some, unwrap_or};
 ghost use Rattle.std.specs.Result.{result_unwrap_or};
 ghost use Rattle.dns_network.specs.Stream.{IfOctets, moved};
 ghost use Rattle.dns_service.specs.Places.{number_of};
-ghost use Rattle.dns_service.specs.Socket.{HasEnded, place_of, received_by, sent_by, stream_of};
-ghost use Rattle.dns_service.specs.SystemCalls.{IsEnd, moved_of};
+ghost use Rattle.dns_service.specs.Socket.{HasNotMoved, place_of, stream_of};
+ghost use Rattle.dns_service.specs.SystemCalls.{IsEnd};
 
 use crate::readiness::Place;
 use crate::system::StreamCalls;
@@ -29,7 +29,7 @@ impl<T: StreamCalls> Socket<T> {
 
     /// Lets the events of the stream be reported by a token, and gives it this number. That can be refused.
     pub(crate) fn watch(&mut self, registry: &Registry, token: Token, number: usize) -> bool
-        ensures same { T.calls (stream_of self.new) ≡ T.calls (stream_of self.old) }
+        ensures same { HasNotMoved T.StreamCalls self.old self.new }
         ensures by { IsTrue result → number_of (place_of self.new) ≡ Some number }
     {
         match self.stream.watch(registry, token) {
@@ -43,7 +43,7 @@ impl<T: StreamCalls> Socket<T> {
 fn what_moved(answer: &io::Result<usize>) -> Moved
     ensures count { moved result ≡ result_unwrap_or answer.now 0 }
     ensures some { IfOctets result (0 < moved result) }
-    ensures ended { result ≡ Moved.Ended → (octets : List ℕ) → IsEnd (moved_of octets answer.now) }
+    ensures ended { result ≡ Moved.Ended → IsEnd answer.now }
 {
     match answer {
         Ok(0) => Moved::Ended,
@@ -56,13 +56,14 @@ fn what_moved(answer: &io::Result<usize>) -> Moved
 }
 
 impl<T: StreamCalls> Stream for Socket<T> {
-    ghost received = { λ socket. received_by (T.calls (stream_of socket)) };
+    ghost received = { λ socket. unwrap_or (T.received (stream_of socket)) [] };
 
-    ghost sent = { λ socket. sent_by (T.calls (stream_of socket)) };
+    ghost sent = { λ socket. unwrap_or (T.sent (stream_of socket)) [] };
 
-    ghost is_faithful = { λ socket. IsSome (T.calls (stream_of socket)) };
+    ghost is_faithful = { λ socket.
+        IsSome (T.received (stream_of socket)) × IsSome (T.sent (stream_of socket)) };
 
-    ghost has_ended = { λ socket. HasEnded (T.calls (stream_of socket)) };
+    ghost has_ended = { λ socket. T.has_ended (stream_of socket) };
 
     /// Where the last read would have waited, and no event came since, the system isn't asked.
     fn read(&mut self, into: &mut [u8]) -> Moved {
@@ -82,5 +83,64 @@ impl<T: StreamCalls> Stream for Socket<T> {
         let answer = self.stream.write(octets);
         self.place.note_write(&answer);
         what_moved(&answer)
+    }
+}
+
+#[cfg(test)]
+mod tests {
+    use super::*;
+    use crate::memory_peer::MemoryPeer;
+    use crate::readiness::Readiness;
+    use dns_memory::{Heap, heap};
+    use std::alloc::AllocError;
+    use std::rc::Rc;
+    use std::test::Fail;
+
+    /// The connection with a number, on which these octets came.
+    fn connection(
+        heap: Heap,
+        readiness: &Rc<Readiness, Heap>,
+        number: usize,
+        octets: &[u8],
+    ) -> Result<Socket<MemoryPeer>, AllocError> {
+        let mut place = Place::new(readiness.clone()?);
+        let _is_put = place.put(number);
+        let mut stream = MemoryPeer::new(heap);
+        stream.give(octets)?;
+        Ok(Socket::new(stream, place))
+    }
+
+    #[test]
+    fn octets_of_two_streams_do_not_mix(rt: HostRuntime) -> Result<(), Fail> {
+        let heap = heap(rt.alloc())?;
+        let readiness = Rc::new(heap, Readiness::new())?;
+        let mut first = connection(heap, &readiness, 0, b"one")?;
+        let mut second = connection(heap, &readiness, 1, b"three")?;
+        let mut buffer = [0; 8];
+        assert_eq!(rt; second.read(&mut buffer), Moved::Octets(5));
+        assert_eq!(rt; first.read(&mut buffer), Moved::Octets(3));
+        assert_eq!(rt; &buffer, b"oneee\0\0\0");
+        assert_eq!(rt; first.write(b"1"), Moved::Octets(1));
+        assert_eq!(rt; second.write(b"22"), Moved::Octets(2));
+        assert_eq!(rt; first.read(&mut buffer), Moved::Later);
+        assert_eq!(rt; first.stream.sent(), b"1".as_slice());
+        assert_eq!(rt; second.stream.sent(), b"22".as_slice());
+        Ok(())
+    }
+
+    #[test]
+    fn nothing_moves_if_memory_for_the_record_is_refused(rt: HostRuntime) -> Result<(), Fail> {
+        let heap = heap(rt.alloc())?;
+        let readiness = Rc::new(heap, Readiness::new())?;
+        let mut socket = connection(heap, &readiness, 0, b"one")?;
+        let mut buffer = [0; 8];
+        heap.refuse(1);
+        assert_eq!(rt; socket.read(&mut buffer), Moved::Ended);
+        heap.refuse(1);
+        assert_eq!(rt; socket.write(b"two"), Moved::Ended);
+        heap.refuse(0);
+        assert_eq!(rt; socket.read(&mut buffer), Moved::Octets(3));
+        assert_eq!(rt; socket.stream.sent(), b"".as_slice());
+        Ok(())
     }
 }

@@ -114,7 +114,7 @@ impl<C: DatagramCalls + Drop, L: Drop> Sockets<C, L> {
 
 impl<C: DatagramCalls + Drop, L: ListenerCalls<T> + Drop, T: StreamCalls + Drop> Network<Socket<T>>
     for Sockets<C, L> {
-    ghost accepts = { HasAccepted L.ListenerCalls T.StreamCalls };
+    ghost accepts = { HasAccepted L.ListenerCalls };
 
     ghost watches = { IsWatched T.StreamCalls };
 

@@ -1,10 +1,11 @@
 //! The calls of the system on sockets. Those of mio's keep no list of them: what the system answers is not
 //! proved.
-ghost use Rattle.std.specs.Prelude.{◌≡◌, ◌≤◌, ◌∷◌, [], List, Option, None, IfOk, is_some, length};
-ghost use Rattle.std.specs.Result.{result_ok};
+ghost use Rattle.std.specs.Prelude.{◌≡◌, ◌≤◌, ◌∷◌, [], ℕ, List, Option, None, IfOk, length, take};
+ghost use Rattle.std.specs.Io.KnownBytes.{append_known};
+ghost use Rattle.std.specs.Result.{result_ok, result_unwrap_or};
 ghost use Rattle.dns_configuration.specs.Calls.{HasCalled};
-ghost use Rattle.dns_service.specs.SystemCalls.{Accept, DatagramCall, ListenerCall, Read, RecvFrom, SendTo};
-ghost use Rattle.dns_service.specs.SystemCalls.{StreamCall, Write, datagram_in, moved_of};
+ghost use Rattle.dns_service.specs.SystemCalls.{Accept, DatagramCall, IsEnd, ListenerCall, RecvFrom, SendTo};
+ghost use Rattle.dns_service.specs.SystemCalls.{datagram_in};
 
 use mio::net::{TcpListener, TcpStream, UdpSocket};
 use mio::{Interest, Registry, Token};
@@ -60,29 +61,43 @@ impl ListenerCalls<TcpStream> for TcpListener {
 
 /// The stream of a connection, whose calls don't wait.
 pub(crate) trait StreamCalls {
-    /// The calls that moved octets so far, in order; `None` if they are not known.
-    ghost calls: { Self → Option (List StreamCall) };
+    /// The octets that were read from it so far; `None` if they are not known, as those of a system are not.
+    ghost received: { Self → Option (List ℕ) };
+
+    /// The octets that it took so far; `None` if they are not known.
+    ghost sent: { Self → Option (List ℕ) };
+
+    /// It says itself that it ended, or failed.
+    ghost has_ended: { Self → Type 0 };
 
     /// Reads octets that came into a buffer, and answers how many.
     fn read(&mut self, into: &mut [u8]) -> io::Result<usize>
         ensures few { IfOk result (λ count. count ≤ length into.new) }
-        ensures called { HasCalled (calls self.old) (calls self.new) (Read (moved_of into.new result) ∷ []) }
-        ensures known { is_some (calls self.new) ≡ is_some (calls self.old) };
+        ensures came { received self.new
+            ≡ append_known (received self.old) (take (result_unwrap_or result 0) into.new) }
+        ensures still { sent self.new ≡ sent self.old }
+        ensures ended { IsEnd result → has_ended self.new };
 
     /// Hands octets over, and answers how many of them were taken, from the front.
     fn write(&mut self, octets: &[u8]) -> io::Result<usize>
         ensures few { IfOk result (λ count. count ≤ length octets.now) }
-        ensures called { HasCalled (calls self.old) (calls self.new)
-            (Write (moved_of octets.now result) ∷ []) }
-        ensures known { is_some (calls self.new) ≡ is_some (calls self.old) };
+        ensures went { sent self.new
+            ≡ append_known (sent self.old) (take (result_unwrap_or result 0) octets.now) }
+        ensures still { received self.new ≡ received self.old }
+        ensures ended { IsEnd result → has_ended self.new };
 
     /// Lets events of the stream be reported by a token, and each write leave at once.
     fn watch(&mut self, registry: &Registry, token: Token) -> io::Result<()>
-        ensures { calls self.new ≡ calls self.old };
+        ensures received { received self.new ≡ received self.old }
+        ensures sent { sent self.new ≡ sent self.old };
 }
 
 impl StreamCalls for TcpStream {
-    ghost calls = { λ _. None };
+    ghost received = { λ _. None };
+
+    ghost sent = { λ _. None };
+
+    ghost has_ended = { λ _. Unit {0} };
 
     fn read(&mut self, into: &mut [u8]) -> io::Result<usize> {
         Reading::read(self, into)

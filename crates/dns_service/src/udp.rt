@@ -69,3 +69,53 @@ impl<C: DatagramCalls> DatagramSocket for Udp<C> {
         let _sent = self.socket.send_to(octets, address_of(to, self.is_ipv6));
     }
 }
+
+#[cfg(test)]
+mod tests {
+    use super::*;
+    use crate::memory_sockets::{MemoryDatagrams, PacketCall};
+    use dns_memory::heap;
+    use std::net::{IpAddr, Ipv4Addr, Ipv6Addr, SocketAddr};
+    use std::test::Fail;
+
+    /// The address to which a datagram was sent, if the last call sent one.
+    fn last_sent(socket: &MemoryDatagrams) -> Option<SocketAddr> {
+        match socket.calls()?.last()? {
+            PacketCall::Sent(packet) => Some(packet.address),
+            PacketCall::Received(_) => None,
+        }
+    }
+
+    #[test]
+    fn an_ipv4_peer_of_a_socket_of_ipv6_is_its_ipv4_address(rt: HostRuntime) -> Result<(), Fail> {
+        let heap = heap(rt.alloc())?;
+        let mapped = Ipv6Addr::new(0, 0, 0, 0, 0, 0xffff, 0xc000, 0x0201);
+        let from = SocketAddr::new(IpAddr::V6(mapped), 5353);
+        let mut socket = MemoryDatagrams::new(heap);
+        socket.give(b"query", from)?;
+        let mut udp = Udp::new(socket, true, 0);
+        let mut buffer = [0; 512];
+        let (_count, peer) = udp.receive(&mut buffer).ok_or("none came")?;
+        assert_eq!(rt; peer.address, IpAddr::V4(Ipv4Addr::new(192, 0, 2, 1)));
+        udp.send(peer, b"reply");
+        assert_eq!(rt; last_sent(&udp.socket), Some(from));
+        Ok(())
+    }
+
+    #[test]
+    fn a_list_of_calls_that_was_lost_stays_lost(rt: HostRuntime) -> Result<(), Fail> {
+        let heap = heap(rt.alloc())?;
+        let from = SocketAddr::new(IpAddr::V4(Ipv4Addr::new(192, 0, 2, 1)), 5353);
+        let mut socket = MemoryDatagrams::new(heap);
+        socket.give(b"query", from)?;
+        let mut udp = Udp::new(socket, false, 0);
+        let mut buffer = [0; 512];
+        heap.refuse(1);
+        let (count, peer) = udp.receive(&mut buffer).ok_or("none came")?;
+        heap.refuse(0);
+        assert_eq!(rt; count, 5);
+        udp.send(peer, b"reply");
+        assert!(rt; udp.socket.calls().is_none());
+        Ok(())
+    }
+}

@@ -1,10 +1,11 @@
 use Rattle.std.proofs.Common.{[], inl, inr, refl, sym, ap, length, subst, List, ◌∙◌}
 use Rattle.dns_names.specs.Name.{Labels}
 use Rattle.dns_primary.specs.Open.{AreRecoverable}
-use Rattle.dns_configuration.specs.Known.{IsSettingOf}
+use Rattle.dns_configuration.specs.Known.{IsSettingOf, origins_of}
 use Rattle.dns_configuration.proofs.Called.{called_on, no_calls}
+use Rattle.dns_service.specs.Opening.{AreIntact}
 use Rattle.dns_service.proofs.Known.{as_many, back_whole, named}
-use Rattle.dns_service.proofs.Served.{whichever_set}
+use Rattle.dns_service.proofs.Served.{all_intact, whichever_set}
 use Rattle.dns_service.proofs.opening.open_primary.Goals as goal
 
 pub open-requires-clause-as_many : goal.open-requires-clause-as_many
@@ -17,20 +18,26 @@ open-requires-clause-named g c =
     ap length c.requires ∙ named zones ∙ as_many IsSettingOf zones c.in-Ok.settings.items c.in-Ok.ensures
 
 pub returns-in-Ok-open : goal.returns-in-Ok-open
-returns-in-Ok-open g c = (
-  _,
-  c.in-Ok-open_devices.ensures.1,
-  record {
-    devices = c.in-Ok-open_devices.given.items;
-    given = c.in-Ok-open_devices.ensures.2;
-    known = c.in-Ok.settings.items;
-    settings = c.in-Ok.ensures;
-    recovered = λ m event tries are.
-        (let given = subst (λ (names : List Labels). AreRecoverable g.D.Sectors tries m event 0 m.zones names c.in-Ok.settings.items c.in-Ok-open_devices.given.items) (sym c.requires) are in
-        let to = c.in-Ok-open.ensures.recovered m event tries given in
-        (to.0, to.1, (to.2, c.in-Ok-open.ensures.any_moment m event tries (whichever_set g.D.Sectors tries m event 0 m.zones c.args.origins.now c.in-Ok.settings.items c.in-Ok-open_devices.given.items given))));
-  },
-)
+returns-in-Ok-open g c =
+    let zones = c.args.zones.now in
+    let p = c.in-Ok-open.primary in
+    let known = as_many IsSettingOf zones c.in-Ok.settings.items c.in-Ok.ensures in
+    let intact : AreIntact g.D.Sectors (origins_of zones) c.in-Ok.settings.items c.in-Ok-open_devices.given.items = subst (λ (names : List Labels). AreIntact g.D.Sectors names c.in-Ok.settings.items c.in-Ok-open_devices.given.items) c.requires
+    (all_intact _ c.args.origins.now c.in-Ok.settings.items c.in-Ok-open_devices.given.items p.zones.items p.pending.items refl (ap length c.requires ∙ named zones ∙ known) (c.in-Ok-open_devices.ensures.2.0 ∙ known) c.in-Ok-open.ensures.opened) in (
+      _,
+      c.in-Ok-open_devices.ensures.1,
+      record {
+        devices = c.in-Ok-open_devices.given.items;
+        given = c.in-Ok-open_devices.ensures.2;
+        known = c.in-Ok.settings.items;
+        settings = c.in-Ok.ensures;
+        intact = intact;
+        recovered = λ m event tries are.
+            (let given = subst (λ (names : List Labels). AreRecoverable g.D.Sectors tries m event 0 m.zones names c.in-Ok.settings.items c.in-Ok-open_devices.given.items) (sym c.requires) are in
+            let to = c.in-Ok-open.ensures.recovered m event tries given in
+            (to.0, to.1, (to.2, c.in-Ok-open.ensures.any_moment m event tries (whichever_set g.D.Sectors tries m event 0 m.zones c.args.origins.now c.in-Ok.settings.items c.in-Ok-open_devices.given.items given))));
+      },
+    )
 
 pub returns-in_default : goal.returns-in_default
 returns-in_default g c = no_calls _ _ (inl (record { given = []; tried = []; came = refl; why = inl (refl, refl) }))

@@ -1,4 +1,5 @@
-use Rattle.std.proofs.Common.{◌≡◌, ℕ, [], ◌++◌, inl, inr, refl, List, ap, subst, ◌∙◌}
+use Rattle.std.proofs.Common.{◌≡◌, ℕ, [], ◌++◌, inl, inr, refl, List, ap, subst, ◌∙◌, ◌≤◌, arith, length}
+use Rattle.std.specs.Vec.{vec_capacity}
 use Rattle.std.specs.declared.net.socket_addr.SocketAddr.{SocketAddr}
 use Rattle.dns_names.specs.Name.{Labels}
 use Rattle.dns_configuration.specs.Known.{origins_of}
@@ -67,20 +68,28 @@ returns-in_err-origins g c =
     let err = g.E.Write.contents c.args.err.now in
     no_calls _ _ (failed_as (λ (status : ℕ). ServingEnds g.D.Sectors [] config c.args.options err err status) c.from_residual.result c.from_residual.ensures.0 (serving_failed g.D.Sectors [] config c.args.options err err (inl refl)))
 
+pub returns-in_err-room : goal.returns-in_err-room
+returns-in_err-room g c =
+    let config = c.args.config.now in
+    let err = g.E.Write.contents c.args.err.now in
+    no_calls _ _ (failed_as (λ (status : ℕ). ServingEnds g.D.Sectors [] config c.args.options err err status) c.from_residual-in_err-room.result c.from_residual-in_err-room.ensures.0 (serving_failed g.D.Sectors [] config c.args.options err err (inl refl)))
+
 pub returns-in_err-close_primary-in-Ok-open_primary : goal.returns-in_err-close_primary-in-Ok-open_primary
 returns-in_err-close_primary-in-Ok-open_primary g c =
     let config = c.args.config.now in
     let configuration = c.in-Ok.configuration in
     let primary = c.in-Ok-open_primary.primary in
+    let after = c.serve_as-status.new.primary in
     let err = g.E.Write.contents c.args.err.now in
     let err_after = g.E.Write.contents c.serve_as-status.new.err in
     let opening = c.in-Ok-open_primary.ensures.0 in
     let is : IsServed g.D.Sectors opening configuration.zones.items (IsOpenedAs primary) = rw c.deref-2.ensures.value at c.in-Ok-open_primary.ensures.2 in
-    let gone = c.in_err-close_primary-in-Ok-open_primary.ensures in (
+    let gone = c.in_err-close_primary-in-Ok-open_primary.ensures in
+    let there : length configuration.zones.items ≤ vec_capacity c.in_ok-room.room = omega (arith, c.in_ok-room.ensures.capacity, c.len.ensures, configuration.zones.ok) in (
       _,
       called_on _ _ _ _ _ c.in-Ok-open_primary.ensures.1 gone.1,
       failed_as (λ (status : ℕ). ServingEnds g.D.Sectors (opening ++ gone.0) config c.args.options err err_after status) c.from_residual-in_err-close_primary-in-Ok-open_primary.result c.from_residual-in_err-close_primary-in-Ok-open_primary.ensures.0
-          (let_go g.D.Sectors opening gone.0 config configuration c.args.options (IsOpenedAs primary) err err_after c.in-Ok.ensures.held is gone.2),
+          (let_go g.D.Sectors opening gone.0 config configuration c.args.options primary after _ err err_after c.in-Ok.ensures.held is c.serve_as-status.ensures.run gone.2.0 gone.2.1 there),
     )
 
 pub returns : goal.returns

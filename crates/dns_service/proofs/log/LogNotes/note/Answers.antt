@@ -1,4 +1,4 @@
-use Rattle.std.proofs.Common.{◌≡◌, Option, List, ℕ, sym, subst}
+use Rattle.std.proofs.Common.{Option, List, ℕ, sym, subst}
 use Rattle.std.specs.Io.KnownBytes.{Appends, append_known}
 use Rattle.dns_service.specs.Log.{said_of}
 use Rattle.dns_service.proofs.Said.{said_more}

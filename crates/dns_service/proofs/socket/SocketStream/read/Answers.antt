@@ -1,12 +1,17 @@
-use Rattle.dns_service.proofs.Moved.{as_few, as_known, ended_read, none_written, was_read}
+use Rattle.std.proofs.Common.{[], ap, sym, ◌∙◌}
+use Rattle.std.specs.Prelude.{is_some, unwrap_or}
+use Rattle.dns_service.proofs.Moved.{added, as_few, known_on}
 use Rattle.dns_service.proofs.socket.SocketStream.read.Goals as goal
 
 pub returns : goal.returns
-returns g c = record {
-  few = as_few _ _ _ c.what_moved.ensures.count c.read-answer.ensures.few;
-  some = c.what_moved.ensures.some;
-  ended = λ ends. ended_read _ _ _ c.read-answer.ensures.called c.read-answer.ensures.known (c.what_moved.ensures.ended ends _);
-  came = was_read _ _ _ _ _ c.read-answer.ensures.called c.what_moved.ensures.count;
-  still = none_written _ _ _ c.read-answer.ensures.called;
-  faithful = as_known _ _ c.read-answer.ensures.known;
-}
+returns g c =
+    let read = c.read-answer.ensures in
+    let known = known_on _ _ _ read.came in
+    let same = ap (λ octets. is_some octets) read.still in record {
+      few = as_few _ _ _ c.what_moved.ensures.count read.few;
+      some = c.what_moved.ensures.some;
+      ended = λ ends. read.ended (c.what_moved.ensures.ended ends);
+      came = λ faithful. added _ _ _ c.read-answer.result _ read.came c.what_moved.ensures.count faithful.0;
+      still = λ faithful. ap (λ octets. unwrap_or octets []) read.still;
+      faithful = ((λ is. (known.0 is.0, sym same ∙ is.1)), (λ is. (known.1 is.0, same ∙ is.1)));
+    }

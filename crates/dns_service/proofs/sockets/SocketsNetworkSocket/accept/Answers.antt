@@ -1,4 +1,4 @@
-use Rattle.std.proofs.Common.{ap, refl}
+use Rattle.std.proofs.Common.{refl}
 use Rattle.dns_service.proofs.Accepted.{none_accepted}
 use Rattle.dns_service.proofs.sockets.SocketsNetworkSocket.accept.Goals as goal
 
@@ -9,4 +9,4 @@ pub returns-in_err-stream : goal.returns-in_err-stream
 returns-in_err-stream g c = (refl, rw c.from_residual-in_err-stream.ensures c.in_err-stream.ensures)
 
 pub returns : goal.returns
-returns g c = (refl, (_, ap g.T.StreamCalls.calls c.new.ensures, c.in_ok-stream.ensures))
+returns g c = (refl, rw c.new.ensures c.in_ok-stream.ensures)
