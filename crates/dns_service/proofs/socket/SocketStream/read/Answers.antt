@@ -10,6 +10,7 @@ returns g c =
     let same = ap (λ octets. is_some octets) read.still in record {
       few = as_few _ _ _ c.what_moved.ensures.count read.few;
       some = c.what_moved.ensures.some;
+  answered = tt;
       ended = λ ends. read.ended (c.what_moved.ensures.ended ends);
       came = λ faithful. added _ _ _ c.read-answer.result _ read.came c.what_moved.ensures.count faithful.0;
       still = λ faithful. ap (λ octets. unwrap_or octets []) read.still;

@@ -10,6 +10,7 @@ returns g c =
     let same = ap (λ octets. is_some octets) wrote.still in record {
       few = as_few _ _ _ c.what_moved.ensures.count wrote.few;
       some = c.what_moved.ensures.some;
+  answered = tt;
       ended = λ ends. wrote.ended (c.what_moved.ensures.ended ends);
       went = λ faithful. added _ _ _ c.write-answer.result _ wrote.went c.what_moved.ensures.count faithful.1;
       still = λ faithful. ap (λ octets. unwrap_or octets []) wrote.still;
