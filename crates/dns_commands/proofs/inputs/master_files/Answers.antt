@@ -12,5 +12,5 @@ returns-in-Ok g c =
       made.0,
       made.1,
       of_configuration (option_copied c.args.config.now.octets) c.in-Ok.configuration (λ files. map (λ file. string_bytes file.0) files.items) (λ files. inputs_of files.items) c.files_of.result c.deref.result.now made.0
-      c.in-Ok.ensures.held c.deref.ensures.value made.2,
+          c.in-Ok.ensures.held c.deref.ensures.value made.2,
     )
