@@ -15,3 +15,4 @@ pub mod Shown
 pub mod Soas
 pub mod Stored
 pub mod Taken
+pub mod Verified

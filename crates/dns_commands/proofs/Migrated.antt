@@ -34,6 +34,15 @@ pub migrated_store : (answer : Migration) → (answer ≡ Already → ⊥) → I
 migrated_store Already other = other refl
 migrated_store (Migrated version serial) other = tt
 
+-- What is answered of a root of format 2.
+pub answered_old : (answer : Migration) (r : Result Migration MigrateError) → r ≡ Ok answer → (r ≡ Ok Already) ⊎ (r ≡ Err told.Device) → answer ≡ Already
+answered_old answer r e (inl is) = cc
+answered_old answer r e (inr is) = absurd (cc)
+
+pub refused_old : (error : MigrateError) (r : Result Migration MigrateError) → r ≡ Err error → (r ≡ Ok Already) ⊎ (r ≡ Err told.Device) → error ≡ told.Device
+refused_old error r e (inl is) = absurd (cc)
+refused_old error r e (inr is) = cc
+
 -- One that is refused was only read, unless it failed.
 pub unless_failed : {P : Type 0} (error : MigrateError) (r : Result Migration MigrateError) → r ≡ Err error → (r ≡ Err told.Device) ⊎ IsMigratedStore r ⊎ P → (error ≡ told.Device) ⊎ P
 unless_failed error r e (inl f) = inl (cc)

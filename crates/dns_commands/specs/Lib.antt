@@ -12,3 +12,4 @@ pub mod Load
 pub mod LoadRun
 pub mod Migrate
 pub mod Replay
+pub mod Verify

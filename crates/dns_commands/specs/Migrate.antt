@@ -42,7 +42,8 @@ StaysMigratable g own device after =
 -- The device that was opened at the path was migrated and closed, with this answer: from then on each crash
 -- leaves what `open` alone opens, as a crash might have left the device before, and the answer is of that. It
 -- was opened once more; its first sector was a root of format 1 of that zone and these sizes, and its newest
--- version has room. One that is answered as of format 2 already was only read.
+-- version has room. One that is answered as of format 2 already was only read, and each that has such a root
+-- is answered so. No call on the device failed.
 pub record IsMigratedAs {D : Type 0} (g : Ghosts D) (calls : List (DeviceCall D)) (own : ZoneSettings)
     (answer : Migration) : Type 0 where
   pub device : D
@@ -61,16 +62,24 @@ pub record IsMigratedAs {D : Type 0} (g : Ghosts D) (calls : List (DeviceCall D)
   pub root : g.is_honest device → (answer ≡ Already → ⊥)
       → HasRootIn One (sizes_of (own_shape own)) (g.count device) (sector_at (g.seen device) 0)
   pub already : g.is_honest device → answer ≡ Already → tag (sector_at (g.seen device) 0) ≡ root_tag
+  pub old : g.is_honest device → 0 < g.count device → tag (sector_at (g.seen device) 0) ≡ root_tag
+      → answer ≡ Already
   pub read_only : answer ≡ Already → OnlyReads g device after
+  pub quiet : g.failed after ≡ g.failed device
+  pub count : g.count after ≡ g.count device
 
 -- Why the device was not migrated: where each crash leaves a store with room in format 2, the device failed,
--- memory was refused, or it was opened too often; else the reason is in what is stored on it. It was only
--- read, unless it failed; and only read if its newest version takes more sectors than a snapshot has.
+-- memory was refused, or it was opened too often; else the reason is in what is stored on it, and `Damaged`
+-- names the sector that is wrong by the rules of format 1. It was only read, unless it failed; and only read
+-- if its newest version takes more sectors than a snapshot has. One with a root of format 2 is refused for
+-- its failure alone. (No sector of format 1 has a digest: of those that reading finds right none can be told
+-- from one that was altered.)
 pub record IsMigrationRefused {D : Type 0} (g : Ghosts D) (calls : List (DeviceCall D)) (own : ZoneSettings)
     (fault : DeviceFault) : Type 0 where
   pub device : D
   pub after : D
   pub came : IsOpenedAndClosed calls own device after
+  pub honest : g.is_honest after ↔ g.is_honest device
   pub error : MigrateError
   pub named : fault ≡ fault_of_migrate error
   pub stopped : g.is_honest device
@@ -89,8 +98,12 @@ pub record IsMigrationRefused {D : Type 0} (g : Ghosts D) (calls : List (DeviceC
       → own.snapshot_sectors < sectors_of_snapshot (newest_after o.loaded o.versions)
       → OnlyReads g device after
   pub any_moment : StaysMigratable g own device after
+  pub old : g.is_honest device → 0 < g.count device → tag (sector_at (g.seen device) 0) ≡ root_tag
+      → error ≡ told.Device
   pub read_only : (error ≡ told.Device) ⊎ OnlyReads g device after
   pub failed : error ≡ told.Device → HasRisen (g.failed device) (g.failed after)
+  pub grows : g.failed device ≤ g.failed after
+  pub count : g.count after ≡ g.count device
 
 -- ... or none was had.
 abbrev pub IsNotMigrated : {D : Type 0} → Ghosts D → List (DeviceCall D) → ZoneSettings → DeviceFault → Type 0

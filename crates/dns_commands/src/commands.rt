@@ -10,3 +10,4 @@ pub mod init;
 pub mod load;
 pub mod migrate;
 pub mod replay;
+pub mod verify;

@@ -24,6 +24,7 @@ pub use commands::init::init;
 pub use commands::load::load;
 pub use commands::migrate::migrate;
 pub use commands::replay::replay;
+pub use commands::verify::verify;
 pub use explain::explain_check;
 pub use explain_settings::{explain_origin, explain_replay};
 pub use explain_system::{

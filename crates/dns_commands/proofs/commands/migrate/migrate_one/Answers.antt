@@ -1,6 +1,6 @@
 use Rattle.std.proofs.Common.{inr, Ok, Err, refl, ap}
 use Rattle.dns_configuration.proofs.Called.{called_on}
-use Rattle.dns_commands.proofs.Migrated.{migrated_store, only_read, unless_failed}
+use Rattle.dns_commands.proofs.Migrated.{answered_old, migrated_store, only_read, refused_old, unless_failed}
 use Rattle.dns_commands.proofs.commands.migrate.migrate_one.Goals as goal
 
 pub returns-in-Ok : goal.returns-in-Ok
@@ -17,7 +17,10 @@ returns-in-Ok g c = (
     fits = λ honest o is range wide. (c.in-Ok.ensures.no_room honest o is range wide).0;
     root = λ honest other. c.in-Ok.ensures.root honest (migrated_store c.in-Ok.answer other);
     already = λ honest is. c.in-Ok.ensures.already honest (ap Ok is);
+    old = λ honest some is. answered_old c.in-Ok.answer (Ok c.in-Ok.answer) refl (c.in-Ok.ensures.old honest some is);
     read_only = only_read c.in-Ok.answer (Ok c.in-Ok.answer) refl c.in-Ok.ensures.unwritten;
+    quiet = c.in-Ok.ensures.quiet;
+    count = c.in-Ok.ensures.count;
   },
 )
 
@@ -29,6 +32,7 @@ returns-in-Err g c = (
     device = c.in_ok-device.device;
     after = c.migrate-migrated.new.device;
     came = refl;
+    honest = c.in-Err.ensures.honest;
     error = c.in-Err.error;
     named = c.from.ensures;
     stopped = c.in-Err.ensures.migrated;
@@ -36,7 +40,10 @@ returns-in-Err g c = (
     too_large = λ honest o opens range is. c.in-Err.ensures.too_large honest o opens range (ap Err is);
     no_room = λ honest o is range wide. (c.in-Err.ensures.no_room honest o is range wide).1;
     any_moment = c.in-Err.ensures.any_moment;
+    old = λ honest some is. refused_old c.in-Err.error (Err c.in-Err.error) refl (c.in-Err.ensures.old honest some is);
     read_only = unless_failed c.in-Err.error (Err c.in-Err.error) refl c.in-Err.ensures.unwritten;
     failed = λ is. c.in-Err.ensures.device (ap Err is);
+    grows = c.in-Err.ensures.grows;
+    count = c.in-Err.ensures.count;
   }),
 )
