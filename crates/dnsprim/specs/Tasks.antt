@@ -1,6 +1,6 @@
 -- The commands over the files that their words name.
-use Rattle.std.specs.Prelude.{◌≡◌, ◌⊎◌, ℕ, Bool, true, false, List, [], ◌∷◌, map, Option, Some, None, Result, Ok}
-use Rattle.std.specs.Prelude.{Err}
+use Rattle.std.specs.Prelude.{◌≡◌, ◌⊎◌, ℕ, Bool, true, false, List, [], ◌∷◌, map, Option, Some, None, Result}
+use Rattle.std.specs.Prelude.{IfOk, MatchResult}
 use Rattle.std.specs.Option.{option_copied}
 use Rattle.std.specs.List.{AllZip}
 use Rattle.dns_sectors.specs.declared.device.Sectors.{Ghosts}
@@ -27,8 +27,9 @@ pub record IsReadAlone (reads : List Input) (path : List ℕ) (file : File) : Ty
 -- The file at this path was read, and of what it holds and the status this is said; or memory for it was
 -- refused.
 abbrev pub ReadsOne : {E : Type 0} → List Input → List ℕ → Result ℕ E → (File → ℕ → Type 0) → Type 0
-ReadsOne reads path (Ok status) P = (file : File) × IsReadAlone reads path file × P file status
-ReadsOne reads path (Err error) P = paths_of reads ≡ path ∷ []
+ReadsOne reads path ended P =
+    MatchResult ended (λ status. (file : File) × IsReadAlone reads path file × P file status)
+    (λ _. paths_of reads ≡ path ∷ [])
 
 -- The file of a configuration at this path was read, and then the master files that it names, in their order.
 pub record AreRead (reads : List Input) (path : List ℕ) (config : File) (files : List File) : Type 0 where
@@ -48,30 +49,28 @@ AreFirstRead reads path =
 -- some of the first of them.
 abbrev pub ReadsAll : {E : Type 0} → List Input → List ℕ → Result ℕ E → (File → List File → ℕ → Type 0)
     → Type 0
-ReadsAll reads path (Ok status) P =
-    (config : File) × (files : List File) × AreRead reads path config files × P config files status
-ReadsAll reads path (Err error) P = AreFirstRead reads path
+ReadsAll reads path ended P =
+    MatchResult ended
+    (λ status. (config : File) × (files : List File) × AreRead reads path config files × P config files status)
+    (λ _. AreFirstRead reads path)
 
 -- First the file of a script was read, and then these; or memory was refused.
 abbrev pub ReadsScript : {E : Type 0} → List Input → List ℕ → List ℕ → Result ℕ E
     → (File → File → List File → ℕ → Type 0) → Type 0
-ReadsScript reads script path (Ok status) P =
-    (first : File) × (config : File) × (files : List File) × (rest : List Input)
+ReadsScript reads script path ended P =
+    MatchResult ended
+    (λ status. (first : File) × (config : File) × (files : List File) × (rest : List Input)
     × (first.path.now ≡ script) × (reads ≡ (script, option_copied first.octets) ∷ rest)
-    × AreRead rest path config files × P first config files status
-ReadsScript reads script path (Err error) P =
-    (octets : Option (List ℕ)) × (rest : List Input) × (reads ≡ (script, octets) ∷ rest)
-    × ((rest ≡ []) ⊎ AreFirstRead rest path)
+    × AreRead rest path config files × P first config files status)
+    (λ _. (octets : Option (List ℕ)) × (rest : List Input) × (reads ≡ (script, octets) ∷ rest)
+    × ((rest ≡ []) ⊎ AreFirstRead rest path))
 
 -- The file at this path was read, if a path is given, and of it and the status this is said; or memory for it
 -- was refused.
 abbrev pub ReadsSince : {E : Type 0} → List Input → Option (List ℕ) → Result ℕ E
     → (Option File → ℕ → Type 0) → Type 0
-ReadsSince reads None (Ok status) P = (reads ≡ []) × P None status
-ReadsSince reads (Some path) (Ok status) P =
-    (file : File) × IsReadAlone reads path file × P (Some file) status
-ReadsSince reads None (Err error) P = reads ≡ []
-ReadsSince reads (Some path) (Err error) P = paths_of reads ≡ path ∷ []
+ReadsSince reads None ended P = (reads ≡ []) × IfOk ended (P None)
+ReadsSince reads (Some path) ended P = ReadsOne reads path ended (λ file status. P (Some file) status)
 
 -- `dump` ends so, with a serial or without one.
 abbrev pub Dumps : {D : Type 0} → Ghosts D → File → List ℕ → Option ℕ → Ended (DeviceCall D) → Type 0
