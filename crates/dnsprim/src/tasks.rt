@@ -1,5 +1,5 @@
 //! The commands, each over the files that its words name.
-ghost use Rattle.std.specs.Prelude.{◌≡◌, map, IfOk};
+ghost use Rattle.std.specs.Prelude.{Some, IfOk};
 ghost use Rattle.std.specs.Option.{option_copied};
 ghost use Rattle.std.specs.List.{AllZip};
 ghost use Rattle.dns_configuration.specs.Calls.{Calls};
@@ -63,8 +63,8 @@ pub fn check_file<N: Inputs, W: Write, E: Write>(
         (W.contents run.new.out) (E.contents run.old.err) (E.contents run.new.err) status)) }
 {
     let text = inputs.octets(words.file)?;
-    let file = file(words.file, &text);
-    Ok(check(run.heap, &file, words.origin, &mut run.out, &mut run.err))
+    let input = file(words.file, &text);
+    Ok(check(run.heap, &input, words.origin, &mut run.out, &mut run.err))
 }
 
 /// Checks a configuration and its master files, and returns the exit status.
@@ -141,6 +141,21 @@ pub fn init_files<N: Inputs, D: Sectors + Drop, F: NewDevices<D>, W: Write, E: W
 }
 
 /// Prints what a device keeps, as it is or as it was at a serial, and returns the exit status.
+fn dump_by<D: Sectors + Drop, F: Devices<D>, W: Write, E: Write>(
+    run: &mut Run<F, W, E>,
+    config: &File<'_>,
+    words: Dumping<'_>,
+) -> u8
+    ensures { RunEnds F.calls W.contents E.contents run.old run.new result
+        (Dumps D.Sectors config.now words.entry.origin.now words.entry.serial) }
+{
+    match words.serial {
+        Some(serial) => dump_at::<D, F, Index, W, E>(run, config, words.origin, serial),
+        None => dump::<D, F, Index, W, E>(run, config, words.origin),
+    }
+}
+
+/// Does that by the configuration that the words name.
 pub fn dump_file<N: Inputs, D: Sectors + Drop, F: Devices<D>, W: Write, E: Write>(
     inputs: &mut N,
     run: &mut Run<F, W, E>,
@@ -153,10 +168,7 @@ pub fn dump_file<N: Inputs, D: Sectors + Drop, F: Devices<D>, W: Write, E: Write
 {
     let text = inputs.octets(words.config)?;
     let config = file(words.config, &text);
-    Ok(match words.serial {
-        Some(serial) => dump_at::<D, F, Index, W, E>(run, &config, words.origin, serial),
-        None => dump::<D, F, Index, W, E>(run, &config, words.origin),
-    })
+    Ok(dump_by::<D, F, W, E>(run, &config, words))
 }
 
 /// Prints the difference of two versions that a device keeps, and returns the exit status.
@@ -200,6 +212,22 @@ pub fn history_file<N: Inputs, D: Sectors + Drop, F: Devices<D>, W: Write, E: Wr
 }
 
 /// Loads a zone's master file, or prints what that would change, and returns the exit status.
+fn load_by<D: Sectors + Drop, F: Devices<D>, W: Write, E: Write>(
+    run: &mut Run<F, W, E>,
+    config: &File<'_>,
+    files: &[File<'_>],
+    words: Loading<'_>,
+) -> u8
+    ensures { RunEnds F.calls W.contents E.contents run.old run.new result
+        (Loads D.Sectors config.now files.now words.entry.origin.now words.entry.dry_run) }
+{
+    match words.dry_run {
+        true => compare::<D, F, Index, W, E>(run, config, files, words.origin),
+        false => load::<D, F, Index, W, E>(run, config, files, words.origin),
+    }
+}
+
+/// Does that by the configuration that the words name, and its master files.
 pub fn load_files<N: Inputs, D: Sectors + Drop, F: Devices<D>, W: Write, E: Write>(
     inputs: &mut N,
     run: &mut Run<F, W, E>,
@@ -214,10 +242,7 @@ pub fn load_files<N: Inputs, D: Sectors + Drop, F: Devices<D>, W: Write, E: Writ
     let config = file(words.config, &text);
     let texts = master_files(run.alloc, run.heap, inputs, &config)?;
     let files = files_in(run.alloc, &texts)?;
-    Ok(match words.dry_run {
-        true => compare::<D, F, Index, W, E>(run, &config, &files, words.origin),
-        false => load::<D, F, Index, W, E>(run, &config, &files, words.origin),
-    })
+    Ok(load_by::<D, F, W, E>(run, &config, &files, words))
 }
 
 /// Migrates devices, and returns the exit status.
@@ -231,7 +256,8 @@ pub fn migrate_file<N: Inputs, D: Sectors + Drop, F: Devices<D>, W: Write, E: Wr
         RunEnds F.calls W.contents E.contents run.old run.new status (MigrateEnds D.Sectors config))) }
 {
     let text = inputs.octets(config)?;
-    Ok(migrate::<D, F, Index, W, E>(run, &file(config, &text)))
+    let config = file(config, &text);
+    Ok(migrate::<D, F, Index, W, E>(run, &config))
 }
 
 /// Reads devices, tells what a start would find, and returns the exit status.
@@ -264,6 +290,7 @@ pub fn serve_file<N: Inputs, D: Sectors + Drop, F: Devices<D>, R: Net + Clock, E
         (E.contents run.old.err) (E.contents run.new.err) status))) }
 {
     let text = inputs.octets(words.config)?;
+    let config = file(words.config, &text);
     let options = ServeOptions {
         turns: words.turns,
         is_quiet: words.quiet,
@@ -274,7 +301,7 @@ pub fn serve_file<N: Inputs, D: Sectors + Drop, F: Devices<D>, R: Net + Clock, E
         run.heap,
         rt,
         &mut run.devices,
-        &file(words.config, &text),
+        &config,
         options,
         &mut run.err,
     ))
@@ -291,28 +318,6 @@ pub struct FetchRun<V, P, W, E> {
     pub watch: P,
     pub out: W,
     pub err: E,
-}
-
-/// Takes a zone in from another server, and returns the exit status.
-pub fn fetch_zone<N: Inputs, S: WaitingStream + Drop, V: Servers<S>, P: Watch, W: Write, E: Write>(
-    inputs: &mut N,
-    run: &mut FetchRun<V, P, W, E>,
-    words: Fetching<'_>,
-) -> io::Result<u8>
-    ensures { Calls (N.reads inputs.old) (N.reads inputs.new) (λ reads.
-        ReadsSince reads (option_copied words.entry.since) result (λ since status.
-        Calls (V.calls run.old.servers) (V.calls run.new.servers) (λ calls.
-        ConnectsOnce words.entry.server.now calls
-        × FetchEnds S.Stream (IsReached calls) words.entry.server.now words.entry.origin.now since
-        run.old.explain (W.contents run.old.out) (W.contents run.new.out) (E.contents run.old.err)
-        (E.contents run.new.err) status))) }
-{
-    let Some(path) = words.since else {
-        return Ok(fetch_from::<S, V, P, W, E>(run, words, None));
-    };
-    let text = inputs.octets(path)?;
-    let held = file(path, &text);
-    Ok(fetch_from::<S, V, P, W, E>(run, words, Some(&held)))
 }
 
 /// Takes a zone in, of which this file holds an older version, and returns the exit status.
@@ -338,4 +343,44 @@ fn fetch_from<S: WaitingStream + Drop, V: Servers<S>, P: Watch, W: Write, E: Wri
         &mut run.out,
         &mut run.err,
     )
+}
+
+/// Takes a zone in, of which the file at this path holds an older version, and returns the exit status.
+fn fetch_since<N: Inputs, S: WaitingStream + Drop, V: Servers<S>, P: Watch, W: Write, E: Write>(
+    inputs: &mut N,
+    run: &mut FetchRun<V, P, W, E>,
+    words: Fetching<'_>,
+    path: &str,
+) -> io::Result<u8>
+    ensures { Calls (N.reads inputs.old) (N.reads inputs.new) (λ reads.
+        ReadsOne reads path.now result (λ since status.
+        Calls (V.calls run.old.servers) (V.calls run.new.servers) (λ calls.
+        ConnectsOnce words.entry.server.now calls
+        × FetchEnds S.Stream (IsReached calls) words.entry.server.now words.entry.origin.now (Some since)
+        run.old.explain (W.contents run.old.out) (W.contents run.new.out) (E.contents run.old.err)
+        (E.contents run.new.err) status))) }
+{
+    let text = inputs.octets(path)?;
+    let held = file(path, &text);
+    Ok(fetch_from::<S, V, P, W, E>(run, words, Some(&held)))
+}
+
+/// Takes a zone in from another server, and returns the exit status.
+pub fn fetch_zone<N: Inputs, S: WaitingStream + Drop, V: Servers<S>, P: Watch, W: Write, E: Write>(
+    inputs: &mut N,
+    run: &mut FetchRun<V, P, W, E>,
+    words: Fetching<'_>,
+) -> io::Result<u8>
+    ensures { Calls (N.reads inputs.old) (N.reads inputs.new) (λ reads.
+        ReadsSince reads (option_copied words.entry.since) result (λ since status.
+        Calls (V.calls run.old.servers) (V.calls run.new.servers) (λ calls.
+        ConnectsOnce words.entry.server.now calls
+        × FetchEnds S.Stream (IsReached calls) words.entry.server.now words.entry.origin.now since
+        run.old.explain (W.contents run.old.out) (W.contents run.new.out) (E.contents run.old.err)
+        (E.contents run.new.err) status))) }
+{
+    match words.since {
+        Some(path) => fetch_since::<N, S, V, P, W, E>(inputs, run, words, path),
+        None => Ok(fetch_from::<S, V, P, W, E>(run, words, None)),
+    }
 }
