@@ -5,6 +5,7 @@ pub returns : goal.returns
 returns g c = record {
   few = as_few _ _ _ c.what_moved.ensures.count c.write-answer.ensures.few;
   some = c.what_moved.ensures.some;
+  answered = tt;
   ended = λ ends. ended_written _ _ _ c.write-answer.ensures.called c.write-answer.ensures.known (c.what_moved.ensures.ended ends _);
   went = was_written _ _ _ _ _ c.write-answer.ensures.called c.what_moved.ensures.count;
   still = none_read _ _ _ c.write-answer.ensures.called;
