@@ -4,7 +4,6 @@ use Rattle.std.specs.Prelude.{All, nat_eq}
 use Rattle.std.specs.List.{AllZip, flat_map}
 use Rattle.std.proofs.lemmas.List.{get_or-append-add}
 use Rattle.std.proofs.lemmas.List.Elements.{All-append, filter-append}
-use Rattle.std.proofs.lemmas.Grind.{flat_map-append}
 use Rattle.dns_zone.specs.declared.index.ZoneIndex as index
 use Rattle.dns_store.specs.declared.zone_store.ZoneStore as store
 use Rattle.dns_primary.specs.declared.event.Peer.{Peer}
@@ -20,11 +19,11 @@ use Rattle.dns_network.specs.declared.stream.Stream as stream
 use Rattle.dns_network.specs.Closing.{Cause, HasEnded, Silent, Stalled, NoMemory, NoPlace}
 use Rattle.dns_network.specs.Connections.{is_open}
 use Rattle.dns_network.specs.Datagrams.{Datagram, arrived_of}
-use Rattle.dns_network.specs.Delivery.{AreGoing, ClosedInstead, Going, HasEffects, HasNoted, IsSent, Served}
+use Rattle.dns_network.specs.Delivery.{AreGoing, ClosedInstead, Going, HasNoted, IsSent, Served}
 use Rattle.dns_network.specs.Steps.{AreSteps}
 use Rattle.dns_network.specs.Turn.{TurnMoment, Asks, Moves, Connects, Refuses, Happens, Closes}
-use Rattle.dns_network.specs.Turn.{AreMoments, ClosedFor, EventComes, HasAsked, HasHappened, IsCauseNoted, IsMoment, IsPlaced}
-use Rattle.dns_network.specs.Turns.{AreDone, AreTurns, IsRound, IsTurn}
+use Rattle.dns_network.specs.Turn.{AreMoments, EventComes, HasAsked, HasHappened, IsCauseNoted, IsMoment, IsPlaced}
+use Rattle.dns_network.specs.Turns.{AreDone, AreTurns, IsRound}
 use Rattle.dns_service.specs.Carried.{IsCutFrom, datagrams_from, datagrams_to, sent_in_moment, sent_in_turns, told_in_moment, told_in_turns}
 use Rattle.dns_service.specs.DatagramSockets.{AreInOrder, HaveBrought, HaveCarried, of_address}
 use Rattle.dns_service.specs.declared.system.DatagramCalls.{Ghosts}

@@ -1,6 +1,6 @@
 -- The sockets of datagrams of a server, one on each of its addresses.
-use Rattle.std.specs.Prelude.{◌≡◌, ◌<◌, ◌++◌, ◌∷◌, [], ℕ, nat_eq, List, Option, Some, None, All, filter, length}
-use Rattle.std.specs.Prelude.{slice_get}
+use Rattle.std.specs.Prelude.{◌≡◌, ◌<◌, ◌++◌, ◌∷◌, [], ℕ, nat_eq, List, Option, Some, None, All, filter}
+use Rattle.std.specs.Prelude.{length, slice_get}
 use Rattle.dns_network.specs.Datagrams.{Datagram, arrived_of, socket_of}
 use Rattle.dns_network.specs.declared.datagrams.Datagrams.{Datagrams}
 use Rattle.dns_service.specs.Udp.{HasCarried, local_of}

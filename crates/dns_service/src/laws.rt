@@ -9,9 +9,9 @@ use dns_store::ZoneStore;
 use dns_zone::ZoneIndex;
 
 /// Whatever turns are made over the sockets of a server, any number of them: each datagram that the machine
-/// is told of came by the socket of the address that its peer sent to, whole or cut off where the buffer ends;
-/// and each reply to an address is given to the socket of that address, and to no other, whole and once. By
-/// each socket they come and go in order.
+/// is told of came by the socket of the address that its peer sent to, whole or cut off where the buffer
+/// ends; and each reply to an address is given to the socket of that address, and to no other, whole and
+/// once. By each socket they come and go in order.
 ///
 /// That the code makes such turns is what the contract of `Edge::turn` says, and that each socket is on the
 /// address with its own index is what that of `Sockets::bind` says.
