@@ -4,7 +4,7 @@ use Rattle.std.specs.Prelude.{All, IfNone, IfSome, slice_get}
 use Rattle.std.specs.Option.{option_map}
 use Rattle.std.proofs.lemmas.List.{take-append-drop}
 use Rattle.std.proofs.lemmas.Bool.{eq-eqb, ne_eqb}
-use Rattle.std.proofs.lemmas.List.Elements.{All-append}
+use Rattle.std.proofs.lemmas.List.Elements.{All-append, All-nil}
 use Rattle.std.specs.List.{AllZip}
 use Rattle.std.proofs.lemmas.Option.{slice_get_read, slice_get_within}
 use Rattle.dns_primary.specs.declared.event.Peer.{Peer}
@@ -34,6 +34,15 @@ all_from n (x ∷ xs) [] is k d small = absurd is
 all_from n (x ∷ xs) (y ∷ ys) is zero d small = is.0.1.local_is
 all_from n (x ∷ xs) (y ∷ ys) is (suc k) d small = all_from n xs ys is.1 k d (omega (arith, small))
 
+all_one : {A : Type 0} (P : A → Type 0) (x : A) → P x → All P (x ∷ [])
+all_one P x is zero d small = is
+all_one P x is (suc k) d small = absurd (omega (arith, small))
+
+-- so many sockets there are as before
+pub still_there : {C : Type 0} (handed : List Datagram) (old new : List (Datagrams (Udp C))) → length new ≡ length old → All (λ one. one.1.local < length new) handed
+    → All (λ one. one.1.local < length old) handed
+still_there handed old new count all = subst (λ (n : ℕ). All (λ one. one.1.local < n) handed) count all
+
 pub order_same : {C : Type 0} (old new : List (Datagrams (Udp C))) → new ≡ old → AreInOrder old → AreInOrder new
 order_same {C} old new same order = subst (λ (l : List (Datagrams (Udp C))). AreInOrder l) (sym same) order
 
@@ -55,15 +64,17 @@ one_more {C} old new one is own none order local socket there =
 
 module _ {C : Type 0} (c : Ghosts C) where
   pub none_have : (old : List (Datagrams (Udp C))) → HaveCarried c [] [] old old
-  none_have old = record { count = refl; each = same_each (λ _. HasCarried c [] []) old (λ _. none_carried c) }
+  none_have old = record { count = refl; there = All-nil (λ one. one.1.local < length old); each = same_each (λ _. HasCarried c [] []) old (λ _. none_carried c) }
 
   -- one of them carried these, and the others nothing
   one_has : (given handed : List Datagram) (old : List (Datagrams (Udp C))) (index : ℕ) (one new : Datagrams (Udp C)) → slice_get old index ≡ Some one
       → HasCarried c (of_address index given) (of_address index handed) one new
       → ((local : ℕ) → (index ≡ local → ⊥) → (of_address local given ≡ []) × (of_address local handed ≡ []))
+      → All (λ one. one.1.local < length old) handed
       → HaveCarried c given handed old (slice_set old index new)
-  one_has given handed old index one new there is others = record {
+  one_has given handed old index one new there is others within = record {
     count = as_long old index new;
+    there = within;
     each = one_each (λ local before after. HasCarried c (of_address local given) (of_address local handed) before after) old index one new there is none;
   }
     where
@@ -77,6 +88,7 @@ module _ {C : Type 0} (c : Ghosts C) where
   pub have_on : (given handed : List Datagram) (a b d : List (Datagrams (Udp C))) → HaveCarried c [] [] a b → HaveCarried c given handed b d → HaveCarried c given handed a d
   have_on given handed a b d first then = record {
     count = then.count ∙ first.count;
+    there = still_there handed a b first.count then.there;
     each = λ local before after there here. (let mid = was_there b d then.count local after here in
         carried_on c [] [] (of_address local given) (of_address local handed) before mid.0 after (first.each local before mid.0 there mid.1) (then.each local mid.0 after mid.1 here));
   }
@@ -85,6 +97,7 @@ module _ {C : Type 0} (c : Ghosts C) where
   pub have_more : (given handed : List Datagram) (a b d : List (Datagrams (Udp C))) → HaveCarried c given handed a b → HaveCarried c [] [] b d → HaveCarried c given handed a d
   have_more given handed a b d first then = record {
     count = then.count ∙ first.count;
+    there = first.there;
     each = λ local before after there here. (let mid = was_there b d then.count local after here in
         subst (λ (l : List Datagram). HasCarried c l (of_address local handed) before after) (append-nil (of_address local given))
         (subst (λ (l : List Datagram). HasCarried c (of_address local given ++ []) l before after) (append-nil (of_address local handed))
@@ -92,7 +105,7 @@ module _ {C : Type 0} (c : Ghosts C) where
   }
 
   -- What has arrived by a socket, and what comes by it, was sent to its address.
-  of_own : (local : ℕ) (given handed : List Datagram) (before after : Datagrams (Udp C)) (is : HasCarried c given handed before after) → IsOn local before
+  pub of_own : (local : ℕ) (given handed : List Datagram) (before after : Datagrams (Udp C)) (is : HasCarried c given handed before after) → IsOn local before
       → All (λ one. one.1.local ≡ local) (handed ++ arrived_of after)
   of_own local given handed before after is on =
       subst (λ (l : List Datagram). All (λ one. one.1.local ≡ local) l) is.arrived
@@ -121,7 +134,8 @@ module _ {C : Type 0} (c : Ghosts C) where
         rest,
         one_has [] (one ∷ []) old index before after there
             (subst (λ (l : List Datagram). HasCarried c [] l before after) (sym (own_address index one local)) is)
-            (λ other differs. (refl, other_address other one (λ same. differs (sym local ∙ same)))),
+            (λ other differs. (refl, other_address other one (λ same. differs (sym local ∙ same))))
+            (all_one (λ one. one.1.local < length old) one (let small = slice_get_within old index before there in omega (arith, small, local))),
       )
 
   -- None came by the sockets that were asked before.
@@ -137,12 +151,13 @@ module _ {C : Type 0} (c : Ghosts C) where
   given_to old index one before after small read own is =
       one_has (one ∷ []) [] old index before after (slice_get_read old (length old) index before refl small read)
       (subst (λ (l : List Datagram). HasCarried c l [] before after) (sym (own_address index one (sym own))) is)
-      (λ other differs. (other_address other one (λ same. differs (own ∙ same)), refl))
+      (λ other differs. (other_address other one (λ same. differs (own ∙ same)), refl)) (All-nil (λ one. one.1.local < length old))
 
   -- One was given to none: there is no such address.
   pub given_to_none : (old : List (Datagrams (Udp C))) (index : ℕ) (one : Datagram) → length old ≤ index → index ≡ one.1.local → HaveCarried c (one ∷ []) [] old old
   given_to_none old index one past own = record {
     count = refl;
+    there = All-nil (λ one. one.1.local < length old);
     each = λ local before after there here. (let same : before ≡ after = cc (there, here) in
         let small : local < length old = slice_get_within old local before there in
         let other : one.1.local ≡ local → ⊥ = λ e. absurd (omega (arith, past, own, e, small)) in
@@ -155,7 +170,7 @@ module _ {C : Type 0} (c : Ghosts C) where
       → before ≡ get_or old index before → HasCarried c [] [] before after → HaveCarried c [] [] first (slice_set old index after)
   nothing_given first old index before after others small read is =
       have_on [] [] first old (slice_set old index after) others
-      (one_has [] [] old index before after (slice_get_read old (length old) index before refl small read) is (λ _ _. (refl, refl)))
+      (one_has [] [] old index before after (slice_get_read old (length old) index before refl small read) is (λ _ _. (refl, refl)) (All-nil (λ one. one.1.local < length old)))
 
   -- What a socket brought.
   pub brought_there : (old : List (Datagrams (Udp C))) (index : ℕ) (before after : Datagrams (Udp C)) (s : socket.Ghosts (Udp C))

@@ -2,6 +2,7 @@ mod Accepted
 mod Brought
 mod Carried
 mod Each
+mod InTurns
 pub mod Known
 pub mod Logged
 mod Moved

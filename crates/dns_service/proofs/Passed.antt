@@ -19,7 +19,7 @@ sent_on [] b = refl
 sent_on (RecvFrom got ∷ a) b = sent_on a b
 sent_on (SendTo one ∷ a) b = ap (λ (l : List Addressed). one ∷ l) (sent_on a b)
 
-zip_on : {A B : Type 0} (R : A → B → Type 0) (xs : List A) (ys : List B) (us : List A) (vs : List B) → AllZip R xs ys → AllZip R us vs → AllZip R (xs ++ us) (ys ++ vs)
+pub zip_on : {A B : Type 0} (R : A → B → Type 0) (xs : List A) (ys : List B) (us : List A) (vs : List B) → AllZip R xs ys → AllZip R us vs → AllZip R (xs ++ us) (ys ++ vs)
 zip_on R [] [] us vs is more = more
 zip_on R [] (y ∷ ys) us vs is more = absurd is
 zip_on R (x ∷ xs) [] us vs is more = absurd is

@@ -1,6 +1,6 @@
 -- The sockets of datagrams of a server, one on each of its addresses.
-use Rattle.std.specs.Prelude.{◌≡◌, ◌++◌, ◌∷◌, [], ℕ, nat_eq, List, Option, Some, None, All, filter, length}
-use Rattle.std.specs.Prelude.{slice_get}
+use Rattle.std.specs.Prelude.{◌≡◌, ◌<◌, ◌++◌, ◌∷◌, [], ℕ, nat_eq, List, Option, Some, None, All, filter}
+use Rattle.std.specs.Prelude.{length, slice_get}
 use Rattle.dns_network.specs.Datagrams.{Datagram, arrived_of, socket_of}
 use Rattle.dns_network.specs.declared.datagrams.Datagrams.{Datagrams}
 use Rattle.dns_service.specs.Udp.{HasCarried, local_of}
@@ -27,10 +27,11 @@ module _ {C : Type 0} where
       (local : ℕ) (socket : Datagrams (Udp C)) → slice_get sockets local ≡ Some socket → IsOn local socket
 
   -- These were given to the sockets to be sent, and these were handed over by them: each by the socket of the
-  -- address that its peer sent to, and by no other.
+  -- address that its peer sent to, and by no other. Each that was handed over was sent to such an address.
   pub record HaveCarried (c : Ghosts C) (given handed : List Datagram) (old new : List (Datagrams (Udp C)))
       : Type 0 where
     pub count : length new ≡ length old
+    pub there : All (λ one. one.1.local < length old) handed
     pub each : (local : ℕ) (before after : Datagrams (Udp C)) → slice_get old local ≡ Some before
         → slice_get new local ≡ Some after
         → HasCarried c (of_address local given) (of_address local handed) before after

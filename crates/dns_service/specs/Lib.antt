@@ -1,3 +1,4 @@
+pub mod Carried
 pub mod DatagramSockets
 pub mod Listeners
 pub mod Log

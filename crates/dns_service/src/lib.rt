@@ -2,6 +2,7 @@
 #![tactic(auto)]
 
 mod datagram_sockets;
+mod laws;
 mod listeners;
 mod log;
 mod memory_peer;
