@@ -67,7 +67,6 @@ impl<T: StreamCalls> Stream for Socket<T> {
 
     ghost answers = { λ _ _ _. Unit {0} };
 
-
     /// Where the last read would have waited, and no event came since, the system isn't asked.
     fn read(&mut self, into: &mut [u8]) -> Moved {
         if !self.place.may_read() {
