@@ -13,7 +13,8 @@ _dnsprim_options() {
         dump) echo --serial --explain --help ;;
         diff) echo --as-update --explain --help ;;
         history) echo --records --explain --help ;;
-        init | migrate | replay | verify) echo --explain --help ;;
+        verify) echo --every-sector --explain --help ;;
+        init | migrate | replay) echo --explain --help ;;
     esac
 }
 

@@ -12,7 +12,7 @@ use Rattle.dns_commands.specs.Dump.{DumpEnds}
 use Rattle.dns_commands.specs.DumpAt.{DumpAtEnds}
 use Rattle.dns_commands.specs.Frame.{Ended}
 use Rattle.dns_commands.specs.Inputs.{AreFilesOf, AreFirstOf, Input, IsInput}
-use Rattle.dns_commands.specs.Load.{LoadEnds}
+use Rattle.dns_commands.specs.LoadRun.{LoadEnds}
 use Rattle.dnsprim.specs.declared.command.Serving.{Serving}
 
 -- The paths of files that were read, in order.

@@ -21,6 +21,6 @@ returns-in_err-files g c =
 pub returns : goal.returns
 returns g c =
     let read = c.in_ok-texts.ensures in
-    let each = rw c.deref.ensures.value at c.in_ok-files.ensures in
     (_, called_on _ _ _ _ _ c.in_ok-text.ensures read.1,
-    (c.file-config.result, c.in_ok-files.files.items, all_read _ _ c.file-config.result _ read.0 c.in_ok-texts.texts.items c.file-config.ensures each read.2, c.init.ensures))
+    (c.file-config.result, c.deref-2.result.now,
+    all_read _ _ c.file-config.result _ _ read.0 c.in_ok-texts.texts.items _ c.file-config.ensures c.in_ok-files.ensures c.deref-2.ensures.value c.deref.ensures.value read.2, c.init.ensures))

@@ -1,0 +1,33 @@
+use Rattle.std.proofs.lemmas.Result.{MatchResult-from_err}
+use Rattle.dns_configuration.proofs.Called.{called_on}
+use Rattle.dnsprim.proofs.ReadFiles.{all_but_kept, all_read, none_read, nothing_but_script, script_alone, scripted, some_read}
+use Rattle.dnsprim.proofs.tasks.replay_files.Goals as goal
+
+pub returns-in_err-script_text : goal.returns-in_err-script_text
+returns-in_err-script_text g c = (_, c.octets.ensures, MatchResult-from_err c.from_residual.result _ _ c.from_residual.ensures.0 (λ _. nothing_but_script _ _ _))
+
+pub returns-in_err-text : goal.returns-in_err-text
+returns-in_err-text g c =
+    (_, called_on _ _ _ _ _ c.in_ok-script_text.ensures c.octets-2.ensures, MatchResult-from_err c.from_residual-in_err-text.result _ _ c.from_residual-in_err-text.ensures.0 (λ _. script_alone _ _ _ _ (none_read _ _)))
+
+pub returns-in_err-texts : goal.returns-in_err-texts
+returns-in_err-texts g c =
+    let read = c.in_err-texts.ensures in
+    let config = called_on _ _ _ _ _ c.in_ok-text.ensures read.1 in
+    (_, called_on _ _ _ _ _ c.in_ok-script_text.ensures config, MatchResult-from_err c.from_residual-in_err-texts.result _ _ c.from_residual-in_err-texts.ensures.0
+    (λ _. script_alone _ _ _ _ (some_read _ _ c.file-config.result read.0 c.file-config.ensures read.2)))
+
+pub returns-in_err-files : goal.returns-in_err-files
+returns-in_err-files g c =
+    let read = c.in_ok-texts.ensures in
+    let config = called_on _ _ _ _ _ c.in_ok-text.ensures read.1 in
+    (_, called_on _ _ _ _ _ c.in_ok-script_text.ensures config, MatchResult-from_err c.from_residual-in_err-files.result _ _ c.from_residual-in_err-files.ensures.0
+    (λ _. script_alone _ _ _ _ (all_but_kept _ _ c.file-config.result read.0 c.in_ok-texts.texts.items c.file-config.ensures read.2)))
+
+pub returns : goal.returns
+returns g c =
+    let read = c.in_ok-texts.ensures in
+    let config = called_on _ _ _ _ _ c.in_ok-text.ensures read.1 in
+    let is = scripted _ _ _ c.file-script.result c.file-config.result c.deref-2.result.now _ c.file-script.ensures
+    (all_read _ _ c.file-config.result _ _ read.0 c.in_ok-texts.texts.items _ c.file-config.ensures c.in_ok-files.ensures c.deref-2.ensures.value c.deref.ensures.value read.2) in
+    (_, called_on _ _ _ _ _ c.in_ok-script_text.ensures config, (c.file-script.result, c.file-config.result, c.deref-2.result.now, is.0, is.1, is.2, is.3, c.replay.ensures))
