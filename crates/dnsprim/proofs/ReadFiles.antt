@@ -8,7 +8,7 @@ use Rattle.std.specs.List.{AllZip}
 use Rattle.dns_configuration.specs.declared.configuration.ZoneSettings.{ZoneSettings}
 use Rattle.dns_configuration.specs.declared.files.File.{File}
 use Rattle.dns_commands.specs.Inputs.{AreFilesOf, AreFirstOf, Input, IsInput, file_paths, inputs_of, octets_held}
-use Rattle.dnsprim.specs.Tasks.{AreFirstRead, AreRead, IsReadAlone, paths_of}
+use Rattle.dnsprim.specs.Tasks.{AreFirstRead, AreAllRead, IsReadAlone, paths_of}
 
 -- one file
 pub read_alone : (path : List ℕ) (octets : Option (List ℕ)) (file : File) → IsInput file (path, octets) → IsReadAlone ((path, octets) ∷ []) path file
@@ -24,7 +24,7 @@ paths_in (f ∷ files) = ap (λ (paths : List (List ℕ)). string_bytes f.0 ∷ 
 -- a configuration, and its master files
 pub all_read : (path : List ℕ) (octets : Option (List ℕ)) (config : File) (files given : List File) (reads : List Input) (texts slice : List Read) → IsInput config (path, octets)
     → AllZip IsInput files (inputs_of slice) → given ≡ files → slice ≡ texts → (reads ≡ inputs_of texts) × AreFilesOf (option_copied config.octets) (map (λ (f : Read). string_bytes f.0) texts)
-    → AreRead ((path, octets) ∷ [] ++ reads) path config given
+    → AreAllRead ((path, octets) ∷ [] ++ reads) path config given
 all_read path octets config files given reads texts slice is each handed borrowed (same, named) = record {
   texts = reads;
   path_is = is.path;
@@ -73,6 +73,6 @@ pub nothing_but_script : (script path : List ℕ) (octets : Option (List ℕ))
     → (o : Option (List ℕ)) × (rest : List Input) × ((script, octets) ∷ [] ≡ (script, o) ∷ rest) × ((rest ≡ []) ⊎ AreFirstRead rest path)
 nothing_but_script script path octets = (octets, [], refl, inl refl)
 
-pub scripted : (script path : List ℕ) (octets : Option (List ℕ)) (first config : File) (files : List File) (reads : List Input) → IsInput first (script, octets) → AreRead reads path config files
-    → (rest : List Input) × (first.path.now ≡ script) × ((script, octets) ∷ [] ++ reads ≡ (script, option_copied first.octets) ∷ rest) × AreRead rest path config files
+pub scripted : (script path : List ℕ) (octets : Option (List ℕ)) (first config : File) (files : List File) (reads : List Input) → IsInput first (script, octets) → AreAllRead reads path config files
+    → (rest : List Input) × (first.path.now ≡ script) × ((script, octets) ∷ [] ++ reads ≡ (script, option_copied first.octets) ∷ rest) × AreAllRead rest path config files
 scripted script path octets first config files reads is read = (reads, is.path, ap (λ (o : Option (List ℕ)). (script, o) ∷ reads) (sym is.octets), read)

@@ -4,5 +4,5 @@ use Rattle.dnsprim.specs.declared.command.Asked.{Asked}
 use Rattle.dnsprim.specs.declared.command.Task.{Task}
 
 -- This task, with its errors explained or not.
-abbrev pub asked_of : Task → Bool → Asked
-asked_of task explain = record { task = task; explain = explain }
+abbrev pub command_of : Task → Bool → Asked
+command_of task explain = record { task = task; explain = explain }

@@ -26,13 +26,13 @@ pub record IsReadAlone (reads : List Input) (path : List ℕ) (file : File) : Ty
 
 -- The file at this path was read, and of what it holds and the status this is said; or memory for it was
 -- refused.
-abbrev pub ReadsOne : {E : Type 0} → List Input → List ℕ → Result ℕ E → (File → ℕ → Type 0) → Type 0
-ReadsOne reads path ended P =
+abbrev pub ReadsAlone : {E : Type 0} → List Input → List ℕ → Result ℕ E → (File → ℕ → Type 0) → Type 0
+ReadsAlone reads path ended P =
     MatchResult ended (λ status. (file : File) × IsReadAlone reads path file × P file status)
     (λ _. paths_of reads ≡ path ∷ [])
 
 -- The file of a configuration at this path was read, and then the master files that it names, in their order.
-pub record AreRead (reads : List Input) (path : List ℕ) (config : File) (files : List File) : Type 0 where
+pub record AreAllRead (reads : List Input) (path : List ℕ) (config : File) (files : List File) : Type 0 where
   pub texts : List Input
   pub path_is : config.path.now ≡ path
   pub reads_are : reads ≡ (path, option_copied config.octets) ∷ texts
@@ -51,7 +51,7 @@ abbrev pub ReadsAll : {E : Type 0} → List Input → List ℕ → Result ℕ E 
     → Type 0
 ReadsAll reads path ended P =
     MatchResult ended
-    (λ status. (config : File) × (files : List File) × AreRead reads path config files × P config files status)
+    (λ status. (config : File) × (files : List File) × AreAllRead reads path config files × P config files status)
     (λ _. AreFirstRead reads path)
 
 -- First the file of a script was read, and then these; or memory was refused.
@@ -61,7 +61,7 @@ ReadsScript reads script path ended P =
     MatchResult ended
     (λ status. (first : File) × (config : File) × (files : List File) × (rest : List Input)
     × (first.path.now ≡ script) × (reads ≡ (script, option_copied first.octets) ∷ rest)
-    × AreRead rest path config files × P first config files status)
+    × AreAllRead rest path config files × P first config files status)
     (λ _. (octets : Option (List ℕ)) × (rest : List Input) × (reads ≡ (script, octets) ∷ rest)
     × ((rest ≡ []) ⊎ AreFirstRead rest path))
 
@@ -70,7 +70,7 @@ ReadsScript reads script path ended P =
 abbrev pub ReadsSince : {E : Type 0} → List Input → Option (List ℕ) → Result ℕ E
     → (Option File → ℕ → Type 0) → Type 0
 ReadsSince reads None ended P = (reads ≡ []) × IfOk ended (P None)
-ReadsSince reads (Some path) ended P = ReadsOne reads path ended (λ file status. P (Some file) status)
+ReadsSince reads (Some path) ended P = ReadsAlone reads path ended (λ file status. P (Some file) status)
 
 -- `dump` ends so, with a serial or without one.
 abbrev pub Dumps : {D : Type 0} → Ghosts D → File → List ℕ → Option ℕ → Ended (DeviceCall D) → Type 0

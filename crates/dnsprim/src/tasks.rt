@@ -16,7 +16,7 @@ ghost use Rattle.dns_commands.specs.Verify.{VerifyEnds};
 ghost use Rattle.dns_fetch.specs.Connecting.{ConnectsOnce, IsReached};
 ghost use Rattle.dns_fetch.specs.Fetch.{FetchEnds};
 ghost use Rattle.dns_service.specs.Serve.{ServingEnds};
-ghost use Rattle.dnsprim.specs.Tasks.{Dumps, Loads, ReadsAll, ReadsOne, ReadsScript, ReadsSince, options_of};
+ghost use Rattle.dnsprim.specs.Tasks.{Dumps, Loads, ReadsAll, ReadsAlone, ReadsScript, ReadsSince, options_of};
 
 use crate::command::{
     Checking, Diffing, Dumping, Fetching, Listing, Loading, Making, Replaying, Serving, Verifying,
@@ -58,7 +58,7 @@ pub fn check_file<N: Inputs, W: Write, E: Write>(
     words: Checking<'_>,
 ) -> io::Result<u8>
     ensures { Calls (N.reads inputs.old) (N.reads inputs.new) (λ reads.
-        ReadsOne reads words.entry.file.now result (λ file status.
+        ReadsAlone reads words.entry.file.now result (λ file status.
         CheckEnds (option_copied file.octets) file.path.now words.entry.origin.now (W.contents run.old.out)
         (W.contents run.new.out) (E.contents run.old.err) (E.contents run.new.err) status)) }
 {
@@ -162,7 +162,7 @@ pub fn dump_file<N: Inputs, D: Sectors + Drop, F: Devices<D>, W: Write, E: Write
     words: Dumping<'_>,
 ) -> io::Result<u8>
     ensures { Calls (N.reads inputs.old) (N.reads inputs.new) (λ reads.
-        ReadsOne reads words.entry.config.now result (λ config status.
+        ReadsAlone reads words.entry.config.now result (λ config status.
         RunEnds F.calls W.contents E.contents run.old run.new status
         (Dumps D.Sectors config words.entry.origin.now words.entry.serial))) }
 {
@@ -178,7 +178,7 @@ pub fn diff_file<N: Inputs, D: Sectors + Drop, F: Devices<D>, W: Write, E: Write
     words: Diffing<'_>,
 ) -> io::Result<u8>
     ensures { Calls (N.reads inputs.old) (N.reads inputs.new) (λ reads.
-        ReadsOne reads words.entry.config.now result (λ config status.
+        ReadsAlone reads words.entry.config.now result (λ config status.
         RunEnds F.calls W.contents E.contents run.old run.new status
         (DiffEnds D.Sectors config words.entry.origin.now words.entry.from words.entry.to
         words.entry.as_update))) }
@@ -202,7 +202,7 @@ pub fn history_file<N: Inputs, D: Sectors + Drop, F: Devices<D>, W: Write, E: Wr
     words: Listing<'_>,
 ) -> io::Result<u8>
     ensures { Calls (N.reads inputs.old) (N.reads inputs.new) (λ reads.
-        ReadsOne reads words.entry.config.now result (λ config status.
+        ReadsAlone reads words.entry.config.now result (λ config status.
         RunEnds F.calls W.contents E.contents run.old run.new status
         (HistoryEnds D.Sectors config words.entry.origin.now words.entry.records))) }
 {
@@ -252,7 +252,7 @@ pub fn migrate_file<N: Inputs, D: Sectors + Drop, F: Devices<D>, W: Write, E: Wr
     config: &str,
 ) -> io::Result<u8>
     ensures { Calls (N.reads inputs.old) (N.reads inputs.new) (λ reads.
-        ReadsOne reads config.now result (λ config status.
+        ReadsAlone reads config.now result (λ config status.
         RunEnds F.calls W.contents E.contents run.old run.new status (MigrateEnds D.Sectors config))) }
 {
     let text = inputs.octets(config)?;
@@ -267,7 +267,7 @@ pub fn verify_file<N: Inputs, D: Sectors + Drop, F: DevicesToRead<D>, W: Write, 
     words: Verifying<'_>,
 ) -> io::Result<u8>
     ensures { Calls (N.reads inputs.old) (N.reads inputs.new) (λ reads.
-        ReadsOne reads words.entry.config.now result (λ config status.
+        ReadsAlone reads words.entry.config.now result (λ config status.
         RunEnds F.calls W.contents E.contents run.old run.new status
         (VerifyEnds D.Sectors config (option_copied words.entry.origin) words.entry.every_sector))) }
 {
@@ -284,7 +284,7 @@ pub fn serve_file<N: Inputs, D: Sectors + Drop, F: Devices<D>, R: Net + Clock, E
     words: Serving<'_>,
 ) -> io::Result<u8>
     ensures { Calls (N.reads inputs.old) (N.reads inputs.new) (λ reads.
-        ReadsOne reads words.entry.config.now result (λ config status.
+        ReadsAlone reads words.entry.config.now result (λ config status.
         Calls (F.calls run.old.devices) (F.calls run.new.devices) (λ calls.
         ServingEnds D.Sectors calls config (options_of words.entry run.old.explain)
         (E.contents run.old.err) (E.contents run.new.err) status))) }
@@ -353,7 +353,7 @@ fn fetch_since<N: Inputs, S: WaitingStream + Drop, V: Servers<S>, P: Watch, W: W
     path: &str,
 ) -> io::Result<u8>
     ensures { Calls (N.reads inputs.old) (N.reads inputs.new) (λ reads.
-        ReadsOne reads path.now result (λ since status.
+        ReadsAlone reads path.now result (λ since status.
         Calls (V.calls run.old.servers) (V.calls run.new.servers) (λ calls.
         ConnectsOnce words.entry.server.now calls
         × FetchEnds S.Stream (IsReached calls) words.entry.server.now words.entry.origin.now (Some since)

@@ -13,16 +13,22 @@ returns-in_err-text g c =
 pub returns-in_err-texts : goal.returns-in_err-texts
 returns-in_err-texts g c =
     let read = c.in_err-texts.ensures in
-    let config = called_on _ _ _ _ _ c.in_ok-text.ensures read.1 in
-    (_, called_on _ _ _ _ _ c.in_ok-script_text.ensures config, MatchResult-from_err c.from_residual-in_err-texts.result _ _ c.from_residual-in_err-texts.ensures.0
-    (λ _. script_alone _ _ _ _ (some_read _ _ c.file-config.result read.0 c.file-config.ensures read.2)))
+    let config = called_on _ _ _ _ _ c.in_ok-text.ensures read.1 in (
+      _,
+      called_on _ _ _ _ _ c.in_ok-script_text.ensures config,
+      MatchResult-from_err c.from_residual-in_err-texts.result _ _ c.from_residual-in_err-texts.ensures.0
+          (λ _. script_alone _ _ _ _ (some_read _ _ c.file-config.result read.0 c.file-config.ensures read.2)),
+    )
 
 pub returns-in_err-files : goal.returns-in_err-files
 returns-in_err-files g c =
     let read = c.in_ok-texts.ensures in
-    let config = called_on _ _ _ _ _ c.in_ok-text.ensures read.1 in
-    (_, called_on _ _ _ _ _ c.in_ok-script_text.ensures config, MatchResult-from_err c.from_residual-in_err-files.result _ _ c.from_residual-in_err-files.ensures.0
-    (λ _. script_alone _ _ _ _ (all_but_kept _ _ c.file-config.result read.0 c.in_ok-texts.texts.items c.file-config.ensures read.2)))
+    let config = called_on _ _ _ _ _ c.in_ok-text.ensures read.1 in (
+      _,
+      called_on _ _ _ _ _ c.in_ok-script_text.ensures config,
+      MatchResult-from_err c.from_residual-in_err-files.result _ _ c.from_residual-in_err-files.ensures.0
+          (λ _. script_alone _ _ _ _ (all_but_kept _ _ c.file-config.result read.0 c.in_ok-texts.texts.items c.file-config.ensures read.2)),
+    )
 
 pub returns : goal.returns
 returns g c =
