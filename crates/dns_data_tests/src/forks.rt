@@ -35,7 +35,7 @@ fn example(heap: Heap) -> Option<SharedTree> {
 
 /// How many records a set has, as they are walked one after the other, up to twenty.
 fn walked(set: &SharedTree) -> usize {
-    let mut count = 0;
+    let mut count: usize = 0;
     let mut after = None;
     for _step in 0..20 {
         if let Some(record) = set.walk(after) {
