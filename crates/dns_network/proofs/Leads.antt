@@ -117,16 +117,17 @@ module _ {I D S N L : Type 0} {i : index.Ghosts I} {d : store.Ghosts D} (s : str
 
   -- an event happens, and so do its effects
   pub happened : (event : Event) (effects : Effects) (goings : List Going) (old given told new : Served I D S N L i d) → EventComes n now event old given
-      → TakesEvent given.primary event told.primary effects → told ≡ record given { primary = told.primary }
-      → HasEffects n l effects goings told new → HasHappened n l now event effects goings old new
-  happened event effects goings old given told new is_given takes rest is =
-      record { given = given; is_given = is_given; told = told; takes = takes; rest = rest; happened = is }
+      → TakesEvent given.primary event told.primary effects → l.observes given.notes event effects told.notes
+      → told ≡ record given { primary = told.primary; notes = told.notes } → HasEffects n l effects goings told new → HasHappened n l now event effects goings old new
+  happened event effects goings old given told new is_given takes observed rest is =
+      record { given = given; is_given = is_given; told = told; takes = takes; observed = observed; rest = rest; happened = is }
 
   pub happens : (event : Event) (effects : Effects) (old given told new : Served I D S N L i d) → EventComes n now event old given
-      → TakesEvent given.primary event told.primary effects → told ≡ record given { primary = told.primary }
+      → TakesEvent given.primary event told.primary effects → l.observes given.notes event effects told.notes
+      → told ≡ record given { primary = told.primary; notes = told.notes }
       → (goings : List Going) × HasEffects n l effects goings told new → MomentsLead s n l now old new
-  happens event effects old given told new is_given takes rest (goings, is) =
-      by_one (Happens event effects goings) old new (happened event effects goings old given told new is_given takes rest is)
+  happens event effects old given told new is_given takes observed rest (goings, is) =
+      by_one (Happens event effects goings) old new (happened event effects goings old given told new is_given takes observed rest is)
 
   -- a turn after which no reply waits, and one after which one does
   pub not_flushed : (rested : Option ℕ) (moments : List TurnMoment) (old new : Served I D S N L i d) → AreMoments s n l now moments old new

@@ -9,7 +9,7 @@ pub mod Delivery
 pub mod Left
 pub mod MemoryNetwork
 pub mod Notes
-pub mod NotesOfTurns
+pub mod Reports
 pub mod Runs
 pub mod Steps
 pub mod Turn

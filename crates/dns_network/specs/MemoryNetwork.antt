@@ -1,6 +1,8 @@
 -- What the calls of a network in memory do.
 use Rattle.std.specs.Prelude.{◌≡◌, ◌⊎◌, ◌++◌, ℕ, List, [], ◌∷◌, map, Option, Some, None}
 use Rattle.dns_primary.specs.declared.event.Peer.{Peer}
+use Rattle.dns_primary.specs.declared.event.Effects.{Effects}
+use Rattle.dns_primary.specs.Step.{Event}
 use Rattle.dns_network.specs.declared.memory_stream.MemoryStream.{MemoryStream}
 use Rattle.dns_network.specs.declared.memory_network.MemoryNetwork.{MemoryNetwork}
 use Rattle.dns_network.specs.declared.memory_network.MemoryNotes.{MemoryNotes}
@@ -45,3 +47,7 @@ SendsDatagram old peer octets new =
 abbrev pub TakesNote : MemoryNotes → Note → MemoryNotes → Type 0
 TakesNote old note new =
     (new.notes.items ≡ old.notes.items ++ note ∷ []) ⊎ (new.notes.items ≡ old.notes.items)
+
+-- Nothing is kept of an event.
+abbrev pub Observes : MemoryNotes → Event → Effects → MemoryNotes → Type 0
+Observes old event effects new = new ≡ old

@@ -130,13 +130,15 @@ module _ {I D S N L : Type 0} {i : index.Ghosts I} {d : store.Ghosts D} where
   EventComes n now (Checkpoint place) old new = ⊥
   EventComes n now (Closed number) old new = ⊥
 
+  -- An event came, the primary took it, it was observed, and its effects have happened.
   pub record HasHappened (n : Ghosts N S) (l : notes.Ghosts L) (now : ℕ) (event : Event) (effects : Effects)
       (goings : List Going) (old new : Served I D S N L i d) : Type 0 where
     pub given : Served I D S N L i d
     pub is_given : EventComes n now event old given
     pub told : Served I D S N L i d
     pub takes : TakesEvent given.primary event told.primary effects
-    pub rest : told ≡ record given { primary = told.primary }
+    pub observed : l.observes given.notes event effects told.notes
+    pub rest : told ≡ record given { primary = told.primary; notes = told.notes }
     pub happened : HasEffects n l effects goings told new
 
   -- Refused memory is noted before the connection is closed for it, and no other cause is.

@@ -6,6 +6,7 @@ ghost use Rattle.dns_primary.specs.declared.event.Effects.{Effects as StatedEffe
 ghost use Rattle.dns_primary.specs.Keeps.{IsKept, header_out, reply_out};
 ghost use Rattle.dns_primary.specs.Machine.{IsListed, Machine};
 ghost use Rattle.dns_primary.specs.Step.{Closed, Pump};
+ghost use Rattle.dns_primary.specs.Steps.{event_shown};
 ghost use Rattle.dns_network.specs.declared.network.Note.TheVariants as note;
 ghost use Rattle.dns_network.specs.Closing.{StalledAreGone, UnusedAreGone};
 ghost use Rattle.dns_network.specs.Connection.{IsInUse, IsStalled, IsUnused, IsUnusedOrInUse, used_of};
@@ -289,7 +290,8 @@ impl<S: Stream + Drop> Edge<S> {
         let Some((count, peer)) = network.receive(&mut self.buffer) else {
             return false;
         };
-        let effects = primary.step(alloc, Event::Datagram(peer, &self.buffer[..count]));
+        let datagram = Event::Datagram(peer, &self.buffer[..count]);
+        let effects = happen(alloc, primary, notes, datagram);
         self.deliver(alloc, network, primary, notes, effects);
         true
     }
@@ -312,7 +314,7 @@ impl<S: Stream + Drop> Edge<S> {
         ensures pumped { (m : Machine) → IsKept primary.old m
             → HasPumped number result (connections_of self.old) (connections_of self.new) }
     {
-        let effects = primary.step(alloc, Event::Pump(number));
+        let effects = happen(alloc, primary, notes, Event::Pump(number));
         let is_sent = effects.message.is_some();
         self.deliver(alloc, network, primary, notes, effects);
         is_sent
@@ -346,7 +348,7 @@ impl<S: Stream + Drop> Edge<S> {
             return true;
         }
         if let Some(message) = self.connections.next_message(number, now) {
-            let effects = primary.step(alloc, Event::Message(number, &message));
+            let effects = happen(alloc, primary, notes, Event::Message(number, &message));
             self.deliver(alloc, network, primary, notes, effects);
             return true;
         }
@@ -465,7 +467,7 @@ impl<S: Stream + Drop> Edge<S> {
         let mut is_done = accepted | received | visited;
         if primary.has_waiting() {
             network.look();
-            let effects = primary.step(alloc, Event::Flush);
+            let effects = happen(alloc, primary, notes, Event::Flush);
             self.deliver(alloc, network, primary, notes, effects);
             network.look();
             is_done = true;
@@ -510,6 +512,22 @@ impl<S: Stream + Drop> Edge<S> {
         notes.note(Note::Ends);
         is_done
     }
+}
+
+/// Lets an event happen, and has it observed.
+#[inline(always)]
+fn happen<I: ZoneIndex, D: ZoneStore, L: Notes>(
+    alloc: Heap,
+    primary: &mut Primary<I, D>,
+    notes: &mut L,
+    event: Event<'_>,
+) -> Effects
+    ensures takes { TakesEvent primary.old (event_shown event.entry) primary.new result }
+    ensures observed { L.observes notes.old (event_shown event.entry) result notes.new }
+{
+    let effects = primary.step(alloc, event);
+    notes.observe(event, &effects);
+    effects
 }
 
 /// Tells what was noted of an event.

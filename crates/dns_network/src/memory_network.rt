@@ -1,11 +1,12 @@
 //! A network in memory, for tests.
 ghost use Rattle.std.specs.Prelude.{◌≡◌, ◌++◌, ◌∷◌, [], map, OnOk, OnErr};
-ghost use Rattle.dns_network.specs.MemoryNetwork.{Accepts, Receives, SendsDatagram, SendsNothing, TakesNote};
+ghost use Rattle.dns_network.specs.MemoryNetwork.{Accepts, Observes, Receives, SendsDatagram, SendsNothing};
+ghost use Rattle.dns_network.specs.MemoryNetwork.{TakesNote};
 ghost use Rattle.dns_network.specs.MemoryNetwork.{Watches, datagrams_from};
 
 use crate::{MemoryStream, Network, Note, Notes, Octets};
 use dns_memory::Heap;
-use dns_primary::Peer;
+use dns_primary::{Effects, Event, Peer};
 use std::alloc::AllocError;
 
 /// A network in memory. What is sent by it is kept, and so is what is reported of turns.
@@ -152,7 +153,11 @@ impl MemoryNotes {
 impl Notes for MemoryNotes {
     ghost takes = { TakesNote };
 
+    ghost observes = { Observes };
+
     fn note(&mut self, note: Note) {
         let _kept = self.notes.push(note);
     }
+
+    fn observe(&mut self, _event: Event<'_>, _effects: &Effects) {}
 }

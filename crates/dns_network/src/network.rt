@@ -1,10 +1,13 @@
 //! The network as turns need it, and what they report.
 ghost use Rattle.std.specs.Prelude.{◌≤◌, ℕ, List, Option, length, take, IfSome, IsTrue};
 ghost use Rattle.std.specs.Option.{option_map};
+ghost use Rattle.dns_primary.specs.declared.event.Effects.{Effects as StatedEffects};
 ghost use Rattle.dns_primary.specs.declared.event.Peer.{Peer as StatedPeer};
+ghost use Rattle.dns_primary.specs.Step.{Event as StatedEvent};
+ghost use Rattle.dns_primary.specs.Steps.{event_shown};
 ghost use Rattle.dns_network.specs.declared.network.Note.{Note as StatedNote};
 
-use dns_primary::Peer;
+use dns_primary::{Effects, Event, Peer};
 
 /// A network of datagrams and streams, of which no call waits but `wait`. Its calls are described by how it
 /// may go on after each of them.
@@ -84,10 +87,18 @@ pub enum Note {
 
 /// To whom turns report.
 pub trait Notes {
-    /// It may go on so where it took this note.
+    /// It may go on so where it took this note;
     ghost takes: { Self → StatedNote → Self → Type 0 };
+
+    /// and where it observed this event of the primary, and its effects.
+    ghost observes: { Self → StatedEvent → StatedEffects → Self → Type 0 };
 
     /// Takes a note.
     fn note(&mut self, note: Note)
         ensures { takes self.old note self.new };
+
+    /// Observes an event that the primary has taken, before its effects are delivered: a datagram or a message
+    /// that came, a pump of a transfer, or a flush. Of a connection that comes or ends there is a note.
+    fn observe(&mut self, event: Event<'_>, effects: &Effects)
+        ensures { observes self.old (event_shown event.entry) effects.now self.new };
 }

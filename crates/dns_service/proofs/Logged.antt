@@ -1,6 +1,7 @@
 -- The log of turns.
 use Rattle.std.proofs.Common.{◌≡◌, ◌⊎◌, inl, inr, ℕ, ◌+◌, ◌<◌, Bool, false, List, [], ◌∷◌, ◌++◌, length, Option, Some, None, Result, Ok, Err, IfOk, refl, arith, sym, ap, subst, ◌∙◌, append_assoc, append-nil}
-use Rattle.std.specs.Prelude.{get_or, slice_get, take}
+use Rattle.std.specs.Prelude.{get_or, replicate, slice_get, take}
+use Rattle.std.specs.declared.net.ip_addr.IpAddr.{IpAddr}
 use Rattle.std.specs.Io.KnownBytes.{Appends, append_known}
 use Rattle.std.specs.declared.net.socket_addr.SocketAddr.{SocketAddr}
 use Rattle.std.proofs.KnownBytes.{Appends-nil, Appends-trans}
@@ -13,17 +14,20 @@ use Rattle.dns_primary.specs.Machine.{Machine, ZoneState, kept_of}
 use Rattle.dns_network.specs.declared.stream.Stream as stream
 use Rattle.dns_zone.specs.declared.index.ZoneIndex as index
 use Rattle.dns_store.specs.declared.zone_store.ZoneStore as store
+use Rattle.dns_primary.specs.Step.{Event}
+use Rattle.dns_primary.specs.declared.event.Effects.{Effects}
 use Rattle.dns_primary.specs.declared.primary.Primary.{Primary}
 use Rattle.dns_primary.specs.Keeps.{IsKept}
 use Rattle.dns_network.specs.declared.network.Network.{Ghosts}
-use Rattle.dns_network.specs.declared.network.Note.{Note}
 use Rattle.dns_network.specs.declared.network.Notes as notes
-use Rattle.dns_network.specs.Notes.{AreNoted}
-use Rattle.dns_network.specs.NotesOfTurns.{AreNotesOfTurns}
+use Rattle.dns_network.specs.declared.network.Note.{Note}
+use Rattle.dns_network.specs.Notes.{AreReported, IsReported, OfEvent, OfNote, Report}
+use Rattle.dns_network.specs.Reports.{AreReportsOfTurns}
 use Rattle.dns_network.specs.Turn.{TurnMoment}
 use Rattle.dns_network.proofs.Noted.{Took}
 use Rattle.dns_service.specs.declared.log.Counts.{Counts}
-use Rattle.dns_service.specs.Log.{IsLogged, IsLogOf, IsSaid, Logged, listening_line, listening_lines, log_of, none_in, said_of, says, zone_line, zone_lines}
+use Rattle.dns_service.specs.Log.{IsLogged, IsLogOf, IsSaid, Logged, listening_line, listening_lines, log_of, report_said, says, zone_line, zone_lines}
+use Rattle.dns_service.specs.Verdict.{none_in}
 use Rattle.dns_network.specs.Left.{RestLaw}
 use Rattle.dns_service.specs.ServedTurns.{HasTurned, IsLedTo, IsServedOn, OfRun}
 use Rattle.dns_service.proofs.Turned.{has_been_turned}
@@ -41,43 +45,66 @@ says_all None after text said = tt
 says_all (Some xs) None text said = said
 says_all (Some xs) (Some ys) text said = said ∙ ap (λ (x : List ℕ). x ++ text) (append-nil xs)
 
--- What is said of notes, in a log that stays the same one, and of which no line failed.
+-- A log that took a report stays the same one, and says what is to be said of it.
+abbrev pub LogsOn : {L M : Type 0} → (L → M) → (L → List Labels) → (L → Bool) → (L → Bool) → (L → Logged) → Report → L → L → Type 0
+LogsOn mark names hushed failed state one old new =
+    (mark new ≡ mark old) × (names new ≡ names old) × (hushed new ≡ hushed old) × IsLogged (hushed old) (names old) one (failed old) (failed new) (state old) (state new)
+
+-- It does for each report if it does for each note and each event.
+reported_so : {L M : Type 0} (l : notes.Ghosts L) (mark : L → M) (names : L → List Labels) (hushed : L → Bool) (failed : L → Bool) (state : L → Logged)
+    → ((old : L) (one : Note) (new : L) → l.takes old one new → LogsOn mark names hushed failed state (OfNote one) old new)
+    → ((old : L) (event : Event) (effects : Effects) (new : L) → l.observes old event effects new → LogsOn mark names hushed failed state (OfEvent event effects) old new)
+    → (old : L) (one : Report) (new : L) → IsReported l old one new → LogsOn mark names hushed failed state one old new
+reported_so l mark names hushed failed state taken observed old (OfNote one) new h = taken old one new h
+reported_so l mark names hushed failed state taken observed old (OfEvent event effects) new h = observed old event effects new h
+
+-- A log before the first report.
+pub record BeginsLog (log : Logged) : Type 0 where
+  pub none : log.lines ≡ []
+  pub fresh : log.counts ≡ none_in 0
+  pub unknown : log.addresses ≡ replicate 64 None
+
+-- What is said of reports, in a log that stays the same one, and of which no line failed.
 module _ {L M : Type 0} (l : notes.Ghosts L) (mark : L → M) (names : L → List Labels) (hushed : L → Bool) (failed : L → Bool) (state : L → Logged)
-    (taken_so : (old : L) (one : Note) (new : L) → l.takes old one new → (mark new ≡ mark old) × (names new ≡ names old) × (hushed new ≡ hushed old) × IsLogged (hushed old) (names old) one (failed old) (failed new) (state old) (state new)) where
-  notes_logged : (origins : List Labels) (quiet : Bool) (taken : List Note) (old new : L) → names old ≡ origins → hushed old ≡ quiet → AreNoted l taken old new → failed new ≡ false
-      → (failed old ≡ false) × Appends (says (state old)) (says (state new)) (log_of quiet origins (state old).counts taken)
-  notes_logged origins quiet [] old new known is same whole = (
+    (taken_so : (old : L) (one : Report) (new : L) → IsReported l old one new → LogsOn mark names hushed failed state one old new) where
+  reports_logged : (origins : List Labels) (quiet : Bool) (taken : List Report) (old new : L) → names old ≡ origins → hushed old ≡ quiet → AreReported l taken old new → failed new ≡ false
+      → (failed old ≡ false) × Appends (says (state old)) (says (state new)) (log_of quiet origins (state old).counts (state old).addresses taken)
+  reports_logged origins quiet [] old new known is same whole = (
     subst (λ (x : L). failed x ≡ false) same whole,
     subst (λ (x : L). Appends (says (state old)) (says (state x)) []) (sym same) (Appends-nil (says (state old))),
   )
-  notes_logged origins quiet (one ∷ rest) old new known is (between, here, pending) whole =
+  reports_logged origins quiet (one ∷ rest) old new known is (between, here, pending) whole =
       let step = taken_so old one between here in
-      let later = notes_logged origins quiet rest between new (step.1 ∙ known) (step.2 ∙ is) pending whole in
+      let later = reports_logged origins quiet rest between new (step.1 ∙ known) (step.2 ∙ is) pending whole in
       let now = step.3.said later.0 in
-      let named : IsSaid (said_of (hushed old) origins (state old).counts one) (state old) (state between) =
-      subst (λ (x : List Labels). IsSaid (said_of (hushed old) x (state old).counts one) (state old) (state between)) known now.1 in
-      let said : IsSaid (said_of quiet origins (state old).counts one) (state old) (state between) =
-      subst (λ (x : Bool). IsSaid (said_of x origins (state old).counts one) (state old) (state between)) is named in
-      let first = said_of quiet origins (state old).counts one in (
+      let named : IsSaid (report_said (hushed old) origins (state old).counts (state old).addresses one) (state old) (state between) =
+      subst (λ (x : List Labels). IsSaid (report_said (hushed old) x (state old).counts (state old).addresses one) (state old) (state between)) known now.1 in
+      let said : IsSaid (report_said quiet origins (state old).counts (state old).addresses one) (state old) (state between) =
+      subst (λ (x : Bool). IsSaid (report_said x origins (state old).counts (state old).addresses one) (state old) (state between)) is named in
+      let first = report_said quiet origins (state old).counts (state old).addresses one in
+      let at_counts : Appends (says (state between)) (says (state new)) (log_of quiet origins first.counts (state between).addresses rest) =
+      subst (λ (x : Counts). Appends (says (state between)) (says (state new)) (log_of quiet origins x (state between).addresses rest)) said.counts later.1 in (
         now.0,
-        Appends-trans (says (state old)) (says (state between)) (says (state new)) first.0 (log_of quiet origins first.1 rest) said.text
-            (subst (λ (x : Counts). Appends (says (state between)) (says (state new)) (log_of quiet origins x rest)) said.counts later.1),
+        Appends-trans (says (state old)) (says (state between)) (says (state new)) first.text (log_of quiet origins first.counts first.addresses rest) said.text
+            (subst (λ (x : List (Option IpAddr)). Appends (says (state between)) (says (state new)) (log_of quiet origins first.counts x rest)) said.addresses at_counts),
       )
 
-  stays : (taken : List Note) (old new : L) → AreNoted l taken old new → mark old ≡ mark new
+  stays : (taken : List Report) (old new : L) → AreReported l taken old new → mark old ≡ mark new
   stays [] old new same = ap mark (sym same)
   stays (one ∷ rest) old new (between, here, pending) = sym (taken_so old one between here).0 ∙ stays rest between new pending
 
   -- The log of turns, after the lines of the addresses, once all of it is written out.
   turns_logged : (addresses : List SocketAddr) (err out err_after : Option (List ℕ)) (old new : L) (turns : List (List TurnMoment)) → Appends err (state old).written (listening_lines addresses)
-      → (state old).lines ≡ [] → (state old).counts ≡ none_in 0 → failed new ≡ false → Appends (state new).written out (state new).lines
-      → (mark old ≡ mark new → err_after ≡ out) → Took l (AreNotesOfTurns turns) old new → IsLogOf [] (hushed old) (names old) addresses err err_after turns
-  turns_logged addresses err out err_after old new turns said none fresh whole written at took =
-      let noted = notes_logged (names old) (hushed old) took.0 old new refl refl took.2 whole in
-      let more = log_of (hushed old) (names old) (none_in 0) took.0 in
+      → BeginsLog (state old) → failed new ≡ false → Appends (state new).written out (state new).lines
+      → (mark old ≡ mark new → err_after ≡ out) → Took l (AreReportsOfTurns turns) old new → IsLogOf [] (hushed old) (names old) addresses err err_after turns
+  turns_logged addresses err out err_after old new turns said begins whole written at took =
+      let noted = reports_logged (names old) (hushed old) took.0 old new refl refl took.2 whole in
+      let more = log_of (hushed old) (names old) (none_in 0) (replicate 64 None) took.0 in
+      let from_none : Appends (says (state old)) (says (state new)) (log_of (hushed old) (names old) (none_in 0) (state old).addresses took.0) =
+      subst (λ (x : Counts). Appends (says (state old)) (says (state new)) (log_of (hushed old) (names old) x (state old).addresses took.0)) begins.fresh noted.1 in
       let begun : Appends (append_known (state old).written []) (says (state new)) more =
-      subst (λ (x : List ℕ). Appends (append_known (state old).written x) (says (state new)) more) none
-      (subst (λ (x : Counts). Appends (says (state old)) (says (state new)) (log_of (hushed old) (names old) x took.0)) fresh noted.1) in
+      subst (λ (x : List ℕ). Appends (append_known (state old).written x) (says (state new)) more) begins.none
+      (subst (λ (x : List (Option IpAddr)). Appends (says (state old)) (says (state new)) (log_of (hushed old) (names old) (none_in 0) x took.0)) begins.unknown from_none) in
       let all : Appends (state old).written out more = says_written (state old).written (state new).written out (state new).lines more (says_all (state old).written (says (state new)) more begun) written in (
         took.0,
         took.1,
@@ -89,13 +116,14 @@ module _ {L M : Type 0} (l : notes.Ghosts L) (mark : L → M) (names : L → Lis
 pub has_listened : {I D S N L M : Type 0} {i : index.Ghosts I} {d : store.Ghosts D} {s : stream.Ghosts S} {n : Ghosts N S} {l : notes.Ghosts L}
     {count : ℕ} {old new : Primary I D i d} {network network' : N} {first last : L} {err_after : Option (List ℕ)} → RestLaw d → IsServedOn s n l count old network first new network' last
     → (mark : L → M) (names : L → List Labels) (hushed : L → Bool) (failed : L → Bool) (state : L → Logged)
-    → ((old : L) (one : Note) (new : L) → l.takes old one new → (mark new ≡ mark old) × (names new ≡ names old) × (hushed new ≡ hushed old) × IsLogged (hushed old) (names old) one (failed old) (failed new) (state old) (state new))
-    → (addresses : List SocketAddr) (err out : Option (List ℕ)) → Appends err (state first).written (listening_lines addresses) → (state first).lines ≡ [] → (state first).counts ≡ none_in 0
+    → ((old : L) (one : Note) (new : L) → l.takes old one new → LogsOn mark names hushed failed state (OfNote one) old new)
+    → ((old : L) (event : Event) (effects : Effects) (new : L) → l.observes old event effects new → LogsOn mark names hushed failed state (OfEvent event effects) old new)
+    → (addresses : List SocketAddr) (err out : Option (List ℕ)) → Appends err (state first).written (listening_lines addresses) → BeginsLog (state first)
     → failed last ≡ false → Appends (state last).written out (state last).lines → (mark first ≡ mark last → err_after ≡ out)
     → HasTurned count (λ turns _. IsLogOf [] (hushed first) (names first) addresses err err_after turns) (λ m. IsKept old m) (IsLedTo old new)
-has_listened {l = l} {first = first} {last = last} {err_after = err_after} law is mark names hushed failed state taken_so addresses err out said none fresh whole written at =
+has_listened {l = l} {first = first} {last = last} {err_after = err_after} law is mark names hushed failed state taken_so observed_so addresses err out said begins whole written at =
     has_been_turned law (λ (turns : List (List TurnMoment)). IsLogOf [] (hushed first) (names first) addresses err err_after turns) is
-    (λ turns took. turns_logged l mark names hushed failed state taken_so addresses err out err_after first last turns said none fresh whole written at took)
+    (λ turns took. turns_logged l mark names hushed failed state (reported_so l mark names hushed failed state taken_so observed_so) addresses err out err_after first last turns said begins whole written at took)
 
 -- The line of one address more was written.
 listening_push : (addresses : List SocketAddr) (address : SocketAddr) → listening_lines (addresses ++ address ∷ []) ≡ listening_lines addresses ++ listening_line address
@@ -144,7 +172,7 @@ after_zones (Ok status) quiet origins addresses count err between err_after keep
     turned.1,
     λ m kept.
         let is = turned.2 m kept in
-        ((is.0.0, is.0.1, Appends-trans err between err_after (zone_lines origins m.zones) (listening_lines addresses ++ log_of quiet origins (none_in 0) is.0.0) (said m kept) is.0.2), is.1),
+        ((is.0.0, is.0.1, Appends-trans err between err_after (zone_lines origins m.zones) (listening_lines addresses ++ log_of quiet origins (none_in 0) (replicate 64 None) is.0.0) (said m kept) is.0.2), is.1),
   ),
 )
 

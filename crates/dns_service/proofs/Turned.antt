@@ -12,7 +12,7 @@ use Rattle.dns_network.specs.declared.network.Notes as notes
 use Rattle.dns_network.specs.Delivery.{Served}
 use Rattle.dns_network.specs.Turn.{TurnMoment, HasAsked}
 use Rattle.dns_network.specs.Turns.{AreTurns, IsRound, IsTurn}
-use Rattle.dns_network.specs.NotesOfTurns.{AreNotesOfTurns}
+use Rattle.dns_network.specs.Reports.{AreReportsOfTurns}
 use Rattle.dns_network.proofs.Noted.{Took, turns_noted}
 use Rattle.dns_network.proofs.Running.{turns_run}
 use Rattle.dns_network.proofs.Steps.{step_more}
@@ -43,7 +43,7 @@ module _ {I D S N L : Type 0} {i : index.Ghosts I} {d : store.Ghosts D} (s : str
 
   -- What its notes say of turns, and that they are a run.
   pub has_turned : RestLaw d → (said : List (List TurnMoment) → Type 0) (count : ℕ) (old new : Primary I D i d) (network network' : N) (first last : L) → IsServedOn s n l count old network first new network' last
-      → ((turns : List (List TurnMoment)) → Took l (AreNotesOfTurns turns) first last → said turns)
+      → ((turns : List (List TurnMoment)) → Took l (AreReportsOfTurns turns) first last → said turns)
       → HasTurned count (λ turns _. said turns) (λ m. IsKept old m) (IsLedTo old new)
   has_turned law said count old new network network' first last is log = (
     is.turns,
@@ -58,7 +58,7 @@ module _ {I D S N L : Type 0} {i : index.Ghosts I} {d : store.Ghosts D} (s : str
 -- ... whatever the network is.
 pub has_been_turned : {I D S N L : Type 0} {i : index.Ghosts I} {d : store.Ghosts D} {s : stream.Ghosts S} {n : Ghosts N S} {l : notes.Ghosts L}
     {count : ℕ} {old new : Primary I D i d} {network network' : N} {first last : L} → RestLaw d → (said : List (List TurnMoment) → Type 0) → IsServedOn s n l count old network first new network' last
-    → ((turns : List (List TurnMoment)) → Took l (AreNotesOfTurns turns) first last → said turns)
+    → ((turns : List (List TurnMoment)) → Took l (AreReportsOfTurns turns) first last → said turns)
     → HasTurned count (λ turns _. said turns) (λ m. IsKept old m) (IsLedTo old new)
 has_been_turned {s = s} {n = n} {l = l} {count = count} {old = old} {new = new} {network = network} {network' = network'} {first = first} {last = last} law said is log =
     has_turned s n l law said count old new network network' first last is log

@@ -13,3 +13,5 @@ pub mod Socket
 pub mod Sockets
 pub mod SystemCalls
 pub mod Udp
+pub mod UpdateLines
+pub mod Verdict

@@ -1,6 +1,8 @@
 -- The lines of a server's log.
-use Rattle.std.specs.Prelude.{◌≡◌, ◌+◌, ◌==◌, ℕ, Bool, true, false, List, [], ◌∷◌, ◌++◌, length}
-use Rattle.std.specs.Prelude.{slice_get, Option, Some, None, codes, decimal, flat_map, nat_lt, if◌then◌else◌}
+use Rattle.std.specs.Prelude.{◌≡◌, ◌+◌, ◌==◌, ℕ, Bool, false, List, [], ◌∷◌, ◌++◌, length, replicate}
+use Rattle.std.specs.Prelude.{slice_get, slice_set, Option, Some, None, codes, decimal, flat_map}
+use Rattle.std.specs.Prelude.{if◌then◌else◌}
+use Rattle.std.specs.declared.net.ip_addr.IpAddr.{IpAddr}
 use Rattle.std.specs.declared.net.socket_addr.SocketAddr.{SocketAddr}
 use Rattle.std.specs.Net.Text.{socket_text}
 use Rattle.std.specs.Io.KnownBytes.{Appends, append_known}
@@ -14,10 +16,13 @@ use Rattle.dns_primary.specs.Machine.{ZoneState, kept_of}
 use Rattle.dns_primary.specs.declared.event.Peer.{Peer}
 use Rattle.dns_network.specs.declared.network.Note.{Note}
 use Rattle.dns_network.specs.declared.network.Note.TheVariants as note
-use Rattle.dns_network.specs.NotesOfTurns.{AreNotesOfTurns}
+use Rattle.dns_network.specs.Notes.{Report, OfNote, OfEvent}
+use Rattle.dns_network.specs.Reports.{AreReportsOfTurns}
 use Rattle.dns_network.specs.Turn.{TurnMoment}
 use Rattle.dns_configuration.specs.Faults.{line}
 use Rattle.dns_service.specs.declared.log.Counts.{Counts}
+use Rattle.dns_service.specs.UpdateLines.{event_said}
+use Rattle.dns_service.specs.Verdict.{by_verdict, line_verdict, none_in}
 
 -- The line of a zone: its name, the number of the version that is shown, and its serial.
 abbrev pub zone_line : Labels → ℕ → Zone → List ℕ
@@ -52,22 +57,6 @@ abbrev pub device_line : Option Labels → List ℕ
 device_line None = []
 device_line (Some origin) = line (codes "device " ++ printed_name origin)
 
--- What peers have caused at the start of a second.
-abbrev pub none_in : ℕ → Counts
-none_in second = record { second = second; written = 0; left_out = 0; refused = 0 }
-
--- Whether one more line that peers cause is written, and the counts after it: of one second at most 20 are,
--- and of a quiet log none.
-abbrev pub line_verdict : Bool → Counts → Bool × Counts
-line_verdict true counts = (false, counts)
-line_verdict false counts =
-    if nat_lt counts.written 20 then (true, record counts { written = counts.written + 1 })
-    else (false, record counts { left_out = counts.left_out + 1 })
-
--- What is written if the verdict on a line is this, and the counts after it.
-abbrev pub by_verdict : Bool × Counts → List ℕ → List ℕ × Counts
-by_verdict v text = (if v.0 then text else [], v.1)
-
 -- A line of how many there were, if there was one.
 abbrev pub count_line : ℕ → List ℕ → List ℕ
 count_line count what = if count == 0 then [] else line (decimal count ++ 32 ∷ what)
@@ -93,46 +82,90 @@ said_of quiet origins counts (note.Begins now) =
     if now == counts.second then ([], counts) else (summary counts, none_in now)
 said_of quiet origins counts note.Ends = ([], counts)
 
--- What is written of notes, one after the other.
-abbrev pub log_of : Bool → List Labels → Counts → List Note → List ℕ
-log_of quiet origins counts [] = []
-log_of quiet origins counts (one ∷ rest) =
-    let said = said_of quiet origins counts one in said.0 ++ log_of quiet origins said.1 rest
+-- The addresses of connections by their numbers, after a note: one that is opened has its peer's.
+abbrev pub addresses_after : Note → List (Option IpAddr) → List (Option IpAddr)
+addresses_after (note.Opened number peer) addresses = slice_set addresses number (Some peer.address)
+addresses_after (note.Closed number) addresses = addresses
+addresses_after note.Refused addresses = addresses
+addresses_after note.OutOfMemory addresses = addresses
+addresses_after (note.Device place) addresses = addresses
+addresses_after (note.Begins now) addresses = addresses
+addresses_after note.Ends addresses = addresses
+
+-- What is written of a report, and the counts and the addresses of connections after it.
+pub record Said : Type 0 where
+  pub text : List ℕ
+  pub counts : Counts
+  pub addresses : List (Option IpAddr)
+
+abbrev pub said_with : List ℕ × Counts → List (Option IpAddr) → Said
+said_with said addresses = record { text = said.0; counts = said.1; addresses = addresses }
+
+-- In a quiet log there is no line of an event.
+abbrev pub report_said : Bool → List Labels → Counts → List (Option IpAddr) → Report → Said
+report_said quiet origins counts addresses (OfNote one) =
+    said_with (said_of quiet origins counts one) (addresses_after one addresses)
+report_said quiet origins counts addresses (OfEvent event effects) =
+    said_with (if quiet then ([], counts) else event_said origins addresses counts event effects) addresses
+
+-- What is written of reports, one after the other.
+abbrev pub log_of : Bool → List Labels → Counts → List (Option IpAddr) → List Report → List ℕ
+log_of quiet origins counts addresses [] = []
+log_of quiet origins counts addresses (one ∷ rest) =
+    let said = report_said quiet origins counts addresses one in
+    said.text ++ log_of quiet origins said.counts said.addresses rest
 
 -- This was appended to lines, and these are the counts then.
 pub record IsAdded (said : List ℕ × Counts) (lines lines_after : List ℕ) (after : Counts) : Type 0 where
   pub lines_are : lines_after ≡ lines ++ said.0
   pub counts_are : after ≡ said.1
 
--- What a log has: what was written, lines that are still to be written, and the counts.
+-- This was appended to what a log says, in lines or written out, and these are the counts then.
+pub record IsAppended (said : List ℕ × Counts) (written : Option (List ℕ)) (lines : List ℕ)
+    (written_after : Option (List ℕ)) (lines_after : List ℕ) (after : Counts) : Type 0 where
+  pub text : Appends (append_known written lines) (append_known written_after lines_after) said.0
+  pub counts_are : after ≡ said.1
+
+-- What a log has: what was written, lines that are still to be written, the counts, and the addresses of
+-- connections.
 pub record Logged : Type 0 where
   pub written : Option (List ℕ)
   pub lines : List ℕ
   pub counts : Counts
+  pub addresses : List (Option IpAddr)
 
-abbrev pub logged : Option (List ℕ) → List ℕ → Counts → Logged
-logged written lines counts = record { written = written; lines = lines; counts = counts }
+abbrev pub logged : Option (List ℕ) → List ℕ → Counts → List (Option IpAddr) → Logged
+logged written lines counts addresses =
+    record { written = written; lines = lines; counts = counts; addresses = addresses }
 
 -- What a log says so far.
 abbrev pub says : Logged → Option (List ℕ)
 says log = append_known log.written log.lines
 
--- This is said after all that was said, and these are the counts then.
-pub record IsSaid (said : List ℕ × Counts) (log after : Logged) : Type 0 where
-  pub text : Appends (says log) (says after) said.0
-  pub counts : after.counts ≡ said.1
+-- This is said after all that was said, and these are the counts and the addresses then.
+pub record IsSaid (said : Said) (log after : Logged) : Type 0 where
+  pub text : Appends (says log) (says after) said.text
+  pub counts : after.counts ≡ said.counts
+  pub addresses : after.addresses ≡ said.addresses
 
--- A note was taken by a log of these zones: if no write has failed after it, none had before it, and what is
--- to be said of the note comes after all that was said. When a turn ends, all of it is written.
-pub record IsLogged (quiet : Bool) (origins : List Labels) (one : Note) (failed failed_after : Bool)
+-- After it all lines are written out: a turn ends; or updates are answered, whose replies go out next.
+abbrev pub IsWrittenAt : Bool → Report → Type 0
+IsWrittenAt quiet (OfNote one) = one ≡ note.Ends
+IsWrittenAt quiet (OfEvent event effects) = (quiet ≡ false) × (effects.headers.items ≡ [] → ⊥)
+
+-- A report was taken by a log of these zones: if no write has failed after it, none had before it, and what is
+-- to be said of the report comes after all that was said.
+pub record IsLogged (quiet : Bool) (origins : List Labels) (one : Report) (failed failed_after : Bool)
     (log after : Logged) : Type 0 where
-  pub said : failed_after ≡ false → (failed ≡ false) × IsSaid (said_of quiet origins log.counts one) log after
-  pub written : one ≡ note.Ends → after.lines ≡ []
+  pub said : failed_after ≡ false
+      → (failed ≡ false) × IsSaid (report_said quiet origins log.counts log.addresses one) log after
+  pub written : IsWrittenAt quiet one → after.lines ≡ []
 
 -- The log of these turns was written after all that had been written: first these lines, then those of the
--- addresses, and then what is said of the notes, in order.
+-- addresses, and then what is said of the reports, in order.
 abbrev pub IsLogOf : List ℕ → Bool → List Labels → List SocketAddr → Option (List ℕ) → Option (List ℕ)
     → List (List TurnMoment) → Type 0
 IsLogOf first quiet origins addresses err err_after turns =
-    (notes : List Note) × AreNotesOfTurns turns notes
-    × Appends err err_after (first ++ (listening_lines addresses ++ log_of quiet origins (none_in 0) notes))
+    (reports : List Report) × AreReportsOfTurns turns reports
+    × Appends err err_after
+    (first ++ (listening_lines addresses ++ log_of quiet origins (none_in 0) (replicate 64 None) reports))

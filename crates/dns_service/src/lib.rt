@@ -15,5 +15,6 @@ mod socket;
 mod sockets;
 mod system;
 mod udp;
+mod update_lines;
 
 pub use server::{ServeOptions, serve};

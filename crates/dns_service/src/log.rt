@@ -1,16 +1,23 @@
 //! What a server reports of its turns: lines, of which those that peers can cause are at most 20 a second.
 ghost use Rattle.std.specs.Prelude.{◌≡◌, ◌++◌, Bool, false, true, List, [], IfSome, OnOk, IfOk};
+ghost use Rattle.std.specs.Prelude.{Some, slice_set};
 ghost use Rattle.std.specs.Io.KnownBytes.{Appends};
 ghost use Rattle.dns_names.specs.Name.{Labels};
-ghost use Rattle.dns_service.specs.Log.{IsAdded, IsLogged, by_verdict, closed_line, count_line, logged};
-ghost use Rattle.dns_service.specs.Log.{none_in, opened_line, said_of, summary, line_verdict};
+ghost use Rattle.dns_primary.specs.Steps.{event_shown};
+ghost use Rattle.dns_network.specs.Notes.{OfEvent, OfNote};
+ghost use Rattle.dns_service.specs.Log.{IsAdded, IsLogged, addresses_after, closed_line, count_line, logged};
+ghost use Rattle.dns_service.specs.Log.{IsAppended, opened_line, said_of, summary};
+ghost use Rattle.dns_service.specs.UpdateLines.{event_said};
+ghost use Rattle.dns_service.specs.Verdict.{by_verdict, line_verdict, none_in};
 
+use crate::update_lines::{add_event, have_no_line};
 use dns_memory::Heap;
 use dns_names::Name;
 use dns_network::{Note, Notes};
 use dns_policy::print_address;
-use dns_primary::Peer;
+use dns_primary::{Effects, Event, Peer};
 use std::io::{self, ErrorKind, Write};
+use std::net::IpAddr;
 
 /// How many lines that peers cause are written in a second, at most.
 const LINES: u64 = 20;
@@ -42,8 +49,8 @@ impl Counts {
     }
 }
 
-/// Whether a line that peers cause is written, and the counts after it. None where a count is at its end.
-fn judge(is_quiet: bool, counts: Counts) -> Option<(bool, Counts)>
+/// Whether a line that peers cause is written, and the counts after it. None if a count is at its end.
+pub(crate) fn judge(is_quiet: bool, counts: Counts) -> Option<(bool, Counts)>
     ensures { IfSome result (λ v. v ≡ line_verdict is_quiet counts) }
 {
     let mut after = counts;
@@ -159,8 +166,10 @@ pub(crate) struct Log<'a, E: Write> {
     pub(crate) err: &'a mut E,
     /// The names of the zones, by their positions.
     pub(crate) origins: &'a [Name],
-    /// Whether lines of connections are left out.
+    /// Whether lines of connections, updates and transfers are left out.
     pub(crate) is_quiet: bool,
+    /// The addresses of the connections that were opened, by their numbers.
+    pub(crate) addresses: &'a mut Vec<Option<IpAddr>, Heap>,
     /// The lines of the turn, which are written when it ends.
     pub(crate) lines: &'a mut Vec<u8, Heap>,
     pub(crate) counts: Counts,
@@ -186,6 +195,7 @@ impl<E: Write> Log<'_, E> {
         ensures origins { self.new.origins.now ≡ self.old.origins.now }
         ensures quiet { self.new.is_quiet ≡ self.old.is_quiet }
         ensures counts { self.new.counts ≡ self.old.counts }
+        ensures addresses { self.new.addresses.now.items ≡ self.old.addresses.now.items }
         ensures still { self.new.has_failed ≡ self.old.has_failed }
         ensures none { self.new.lines.now.items ≡ [] }
         ensures written { OnOk result
@@ -196,20 +206,71 @@ impl<E: Write> Log<'_, E> {
         written
     }
 
+    /// Keeps the address of a connection.
+    fn keep_address(&mut self, number: usize, address: IpAddr)
+        ensures same_reference { self.new.err.ghost_name ≡ self.old.err.ghost_name }
+        ensures text { E.contents self.new.err.now ≡ E.contents self.old.err.now }
+        ensures rest { (self.new.origins.now ≡ self.old.origins.now)
+            × (self.new.is_quiet ≡ self.old.is_quiet)
+            × (self.new.counts ≡ self.old.counts)
+            × (self.new.has_failed ≡ self.old.has_failed)
+            × (self.new.lines.now.items ≡ self.old.lines.now.items) }
+        ensures kept { self.new.addresses.now.items
+            ≡ slice_set self.old.addresses.now.items number (Some address) }
+    {
+        if number < self.addresses.len() {
+            self.addresses[number] = Some(address);
+        }
+    }
+
     /// Takes a note of which lines are to be written when the turn ends, or none.
     fn take(&mut self, note: Note)
         ensures same_reference { self.new.err.ghost_name ≡ self.old.err.ghost_name }
         ensures text { E.contents self.new.err.now ≡ E.contents self.old.err.now }
         ensures origins { self.new.origins.now ≡ self.old.origins.now }
         ensures quiet { self.new.is_quiet ≡ self.old.is_quiet }
+        ensures addresses { self.new.addresses.now.items
+            ≡ addresses_after note self.old.addresses.now.items }
         ensures said { self.new.has_failed ≡ false → (self.old.has_failed ≡ false)
             × IsAdded (said_of self.old.is_quiet self.old.origins.now self.old.counts note)
             self.old.lines.now.items self.new.lines.now.items self.new.counts }
     {
+        if let Note::Opened(number, peer) = note {
+            self.keep_address(number, peer.address);
+        }
         let (origins, is_quiet, counts) = (self.origins, self.is_quiet, self.counts);
         match add(self.lines, origins, is_quiet, counts, note) {
             Ok(after) => self.counts = after,
             Err(_) => self.has_failed = true,
+        }
+    }
+}
+
+impl<E: Write> Log<'_, E> {
+    /// Appends what is reported of an event and its effects, and writes all lines out if updates are answered.
+    #[inline(never)]
+    fn report(&mut self, event: Event<'_>, effects: &Effects)
+        ensures same_reference { self.new.err.ghost_name ≡ self.old.err.ghost_name }
+        ensures origins { self.new.origins.now ≡ self.old.origins.now }
+        ensures quiet { self.new.is_quiet ≡ self.old.is_quiet }
+        ensures addresses { self.new.addresses.now.items ≡ self.old.addresses.now.items }
+        ensures said { self.new.has_failed ≡ false → (self.old.has_failed ≡ false)
+            × IsAppended (event_said self.old.origins.now self.old.addresses.now.items self.old.counts
+            (event_shown event.entry) effects.now)
+            (E.contents self.old.err.now) self.old.lines.now.items
+            (E.contents self.new.err.now) self.new.lines.now.items self.new.counts }
+        ensures written { (effects.now.headers.items ≡ [] → ⊥) → self.new.lines.now.items ≡ [] }
+    {
+        let (origins, counts) = (self.origins, self.counts);
+        match add_event(self.lines, origins, self.addresses, counts, event, effects) {
+            Ok(after) => self.counts = after,
+            Err(_) => self.has_failed = true,
+        }
+        if effects.headers.is_empty() {
+            return;
+        }
+        if let Err(_) = self.write_out() {
+            self.has_failed = true;
         }
     }
 }
@@ -230,9 +291,16 @@ impl<E: Write> Notes for Log<'_, E> {
     ghost takes = { λ old note new. (new.err.ghost_name ≡ old.err.ghost_name)
         × (new.origins.now ≡ old.origins.now)
         × (new.is_quiet ≡ old.is_quiet)
-        × IsLogged old.is_quiet old.origins.now note old.has_failed new.has_failed
-        (logged (E.contents old.err.now) old.lines.now.items old.counts)
-        (logged (E.contents new.err.now) new.lines.now.items new.counts) };
+        × IsLogged old.is_quiet old.origins.now (OfNote note) old.has_failed new.has_failed
+        (logged (E.contents old.err.now) old.lines.now.items old.counts old.addresses.now.items)
+        (logged (E.contents new.err.now) new.lines.now.items new.counts new.addresses.now.items) };
+
+    ghost observes = { λ old event effects new. (new.err.ghost_name ≡ old.err.ghost_name)
+        × (new.origins.now ≡ old.origins.now)
+        × (new.is_quiet ≡ old.is_quiet)
+        × IsLogged old.is_quiet old.origins.now (OfEvent event effects) old.has_failed new.has_failed
+        (logged (E.contents old.err.now) old.lines.now.items old.counts old.addresses.now.items)
+        (logged (E.contents new.err.now) new.lines.now.items new.counts new.addresses.now.items) };
 
     /// A turn in which nothing is said costs two comparisons.
     #[inline]
@@ -249,5 +317,14 @@ impl<E: Write> Notes for Log<'_, E> {
             return;
         }
         self.take(note);
+    }
+
+    /// An event of which nothing is said, as a query that is answered, costs some comparisons.
+    #[inline]
+    fn observe(&mut self, event: Event<'_>, effects: &Effects) {
+        if self.is_quiet || have_no_line(effects) {
+            return;
+        }
+        self.report(event, effects);
     }
 }

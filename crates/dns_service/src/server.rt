@@ -31,6 +31,9 @@ use std::time::{Clock, Instant};
 /// so many.
 const TURNS_PER_POLL: u64 = 32;
 
+/// How many connections there may be.
+const CONNECTIONS: usize = 64;
+
 /// Tells which version of a zone is shown.
 fn tell_zone<I: ZoneIndex, E: Write>(
     err: &mut E,
@@ -176,11 +179,14 @@ fn listen<R: Net + Clock, I: ZoneIndex, S: ZoneStore, E: Write>(
     };
     tell_listening(err, addresses)?;
     let mut lines = Vec::new(heap);
+    let mut opened = Vec::new(heap);
+    opened.resize(CONNECTIONS, None)?;
     let counts = Counts::new(0);
     let mut log = Log {
         err,
         origins,
         is_quiet,
+        addresses: &mut opened,
         lines: &mut lines,
         counts,
         has_failed: false,

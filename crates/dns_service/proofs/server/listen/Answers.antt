@@ -1,4 +1,6 @@
-use Rattle.std.proofs.Common.{ℕ, List, inr, refl, sym, ap, subst}
+use Rattle.std.proofs.Common.{ℕ, List, ◌++◌, ◌-◌, length, Option, None, inr, refl, sym, ap, subst, take, ◌∙◌}
+use Rattle.std.specs.Prelude.{replicate}
+use Rattle.std.specs.declared.net.ip_addr.IpAddr.{IpAddr}
 use Rattle.std.specs.Io.KnownBytes.{Appends}
 use Rattle.std.proofs.KnownBytes.{Appends-nil}
 use Rattle.dns_primary.specs.Keeps.{IsKept}
@@ -15,8 +17,10 @@ returns-clause-ended g c =
     let is = c.if-not-is_written.false in
     inr (
       refl,
-      has_listened (λ x k kept z left. g.met.S.ZoneStore.at_rest x k kept z left) c.in_ok-run.ensures (λ log. log.err.ghost_name) (λ log. log.origins.now) (λ log. log.is_quiet) (λ log. log.has_failed) (λ log. logged (text log.err.now) log.lines.now.items log.counts) (λ old one new h. h)
-          c.args.addresses.now (text c.args.err.now) said c.in_ok-tell_listening.ensures c.new-lines.ensures.items c.new-counts.ensures (c.is_written.ensures.whole is)
+      has_listened (λ x k kept z left. g.met.S.ZoneStore.at_rest x k kept z left) c.in_ok-run.ensures (λ log. log.err.ghost_name) (λ log. log.origins.now) (λ log. log.is_quiet) (λ log. log.has_failed) (λ log. logged (text log.err.now) log.lines.now.items log.counts log.addresses.now.items) (λ old one new h. h)
+          (λ old event effects new h. h)
+          c.args.addresses.now (text c.args.err.now) said c.in_ok-tell_listening.ensures
+          (record { none = c.new-lines.ensures.items; fresh = c.new-counts.ensures; unknown = c.in_ok-resize.ensures.items ∙ ap (λ (x : List (Option IpAddr)). take 64 x ++ replicate (64 - length x) None) c.new-opened.ensures.items }) (c.is_written.ensures.whole is)
           (subst (λ (lines : List ℕ). Appends said said lines) (sym (c.is_written.ensures.lines is)) (Appends-nil said)) (λ same. ap text (c.err-2-1.given.1 same)),
     )
 
@@ -37,3 +41,6 @@ returns-in_err-tell_listening-clause-run g c = none_run (λ x k kept z left. g.m
 
 pub returns-in_err-run-clause-run : goal.returns-in_err-run-clause-run
 returns-in_err-run-clause-run g c = rw c.in_err-run.ensures (none_run (λ x k kept z left. g.met.S.ZoneStore.at_rest x k kept z left) _)
+
+pub returns-in_err-resize-clause-run : goal.returns-in_err-resize-clause-run
+returns-in_err-resize-clause-run g c = none_run (λ x k kept z left. g.met.S.ZoneStore.at_rest x k kept z left) _

@@ -65,23 +65,23 @@ returns-in-Some-clause-reads g c =
     let there = places_of c.read.new.self in
     let mid = standing c.args.primary.now c.args.network.now c.args.notes.now there in
     let given = standing c.args.primary.now c.args.network.now c.args.notes.now (places_of c.next_message.new.self) in
-    let told = standing c.step-effects.new.self c.args.network.now c.args.notes.now (places_of c.next_message.new.self) in
+    let told = standing c.happen-effects.new.primary c.args.network.now c.happen-effects.new.notes (places_of c.next_message.new.self) in
     let new = served c.deliver.new.primary c.deliver.new.self c.deliver.new.network c.deliver.new.notes in
     let handed = c.in-Some.ensures in
     let opened = open_become (HasHandedOver now c.in-Some.message.items) number there (places_of c.next_message.new.self) handed in
     let octets = c.deref.result.now in
     let goings = c.deliver.ensures.happened.0 in
-    let handles = happened g.S.Stream g.N.Network g.L.Notes now (Arrives number octets) c.step-effects.result goings mid given told new (
+    let handles = happened g.S.Stream g.N.Network g.L.Notes now (Arrives number octets) c.happen-effects.result goings mid given told new (
       handed.0,
       handed.1,
       handed.2,
       subst (λ (octets : List ℕ). HasHandedOver now octets handed.0 handed.1) (sym c.deref.ensures.value) handed.3,
       ap (standing c.args.primary.now c.args.network.now c.args.notes.now) handed.4,
     )
-    (λ m kept. c.step-effects.ensures.step m kept) refl c.deliver.ensures.happened.1 in
-    let (moments, reads, idle) = read_then g.S.Stream g.N.Network g.L.Notes now number c.in-Ok.moved (Happens (Arrives number octets) c.step-effects.result goings ∷ [])
+    c.happen-effects.ensures.takes c.happen-effects.ensures.observed refl c.deliver.ensures.happened.1 in
+    let (moments, reads, idle) = read_then g.S.Stream g.N.Network g.L.Notes now number c.in-Ok.moved (Happens (Arrives number octets) c.happen-effects.result goings ∷ [])
     c.args.primary.now c.args.network.now c.args.notes.now here there new c.in_default-moved.not-Ended (c.in-Ok.ensures.moved now) (inl opened) (new, handles, refl)
-    (inl (octets, c.step-effects.result, goings, refl)) in (
+    (inl (octets, c.happen-effects.result, goings, refl)) in (
       moments,
       reads,
       λ none. absurd (let clash : true ≡ false = none in cc),
@@ -142,10 +142,10 @@ returns-in-Ended-clause-silent g c = λ silent. is_gone (IsInUse c.args.now) c.a
 pub returns-in-Some-clause-silent : goal.returns-in-Some-clause-silent
 returns-in-Some-clause-silent g c = λ silent.
     let now = c.args.now in
-    let told = standing c.step-effects.new.self c.args.network.now c.args.notes.now (places_of c.next_message.new.self) in
+    let told = standing c.happen-effects.new.primary c.args.network.now c.happen-effects.new.notes (places_of c.next_message.new.self) in
     let new = served c.deliver.new.primary c.deliver.new.self c.deliver.new.network c.deliver.new.notes in
     let handed = handed_now now c.args.number c.in-Some.message.items (places_of c.read.new.self) (places_of c.next_message.new.self) c.in-Some.ensures in
-    effects_stay g.N.Network g.L.Notes (IsInUse now) c.args.number (in_use_stays now) c.step-effects.result c.deliver.ensures.happened.0 told new c.deliver.ensures.happened.1 handed
+    effects_stay g.N.Network g.L.Notes (IsInUse now) c.args.number (in_use_stays now) c.happen-effects.result c.deliver.ensures.happened.0 told new c.deliver.ensures.happened.1 handed
 
 pub returns-then-is_silent-clause-silent : goal.returns-then-is_silent-clause-silent
 returns-then-is_silent-clause-silent g c = λ silent.

@@ -22,21 +22,21 @@ returns-clause-receives g c = λ now.
     let old = served c.args.primary.now c.args.self.now c.args.network.now c.args.notes.now in
     let given = served c.args.primary.now c.args.self.now c.receive.new.self c.args.notes.now in
     let same : length c.receive.new.into ≡ c.args.self.now.buffer.len = omega (arith, c.receive.auto.into, c.deref_mut.ensures.len) in
-    let told = served c.step-effects.new.self c.args.self.now c.receive.new.self c.args.notes.now in
+    let told = served c.happen-effects.new.primary c.args.self.now c.receive.new.self c.happen-effects.new.notes in
     let new = served c.deliver.new.primary c.deliver.new.self c.deliver.new.network c.deliver.new.notes in
     let octets = take c.in-Some.count c.deref.result.now in
     let event = Datagram c.in-Some.peer octets in
     let goings = c.deliver.ensures.happened.0 in
-    let answered = happened g.S.Stream g.N.Network g.L.Notes now event c.step-effects.result goings old given told new (
+    let answered = happened g.S.Stream g.N.Network g.L.Notes now event c.happen-effects.result goings old given told new (
       refl,
       subst (λ (buffer : List ℕ). g.N.Network.receives c.args.network.now (Some (take c.in-Some.count buffer, c.in-Some.peer)) c.receive.new.self)
           (sym (c.deref.ensures.value ∙ with_items_is c.args.self.now.buffer c.receive.new.into same)) c.in-Some.ensures.came,
     )
-    (λ m kept. c.step-effects.ensures.step m kept) refl c.deliver.ensures.happened.1 in (
-      Happens event c.step-effects.result goings ∷ [],
+    c.happen-effects.ensures.takes c.happen-effects.ensures.observed refl c.deliver.ensures.happened.1 in (
+      Happens event c.happen-effects.result goings ∷ [],
       record {
         are = (new, answered, refl);
-        came = λ one. (c.in-Some.peer, octets, c.step-effects.result, goings, refl);
+        came = λ one. (c.in-Some.peer, octets, c.happen-effects.result, goings, refl);
         none = λ none. absurd (let clash : true ≡ false = none in cc);
       },
     )

@@ -50,17 +50,17 @@ returns-then-has_waiting-clause-done g c =
     let after = rested_of c.receive-received.new.self in
     let rests = λ (is : after ≡ Some now). c.accept-accepted.ensures.rested now (c.receive-received.ensures.rested now is) in
     let looked = served c.serve_connections-visited.new.primary c.serve_connections-visited.new.self c.look.new.self c.serve_connections-visited.new.notes in
-    let told = served c.step-effects.new.self c.serve_connections-visited.new.self c.look.new.self c.serve_connections-visited.new.notes in
+    let told = served c.happen-effects.new.primary c.serve_connections-visited.new.self c.look.new.self c.happen-effects.new.notes in
     let flushed = served c.deliver.new.primary c.deliver.new.self c.deliver.new.network c.deliver.new.notes in
     let new = served c.deliver.new.primary c.deliver.new.self c.look-then-has_waiting.new.self c.deliver.new.notes in
     let goings = c.deliver.ensures.happened.0 in
     let moments = accepting ++ receiving ++ serving in (
-      moments ++ Asks ∷ Happens Flush c.step-effects.result goings ∷ Asks ∷ [],
-      flush_after g.S.Stream g.N.Network g.L.Notes now rested moments old done looked flushed new c.step-effects.result goings
+      moments ++ Asks ∷ Happens Flush c.happen-effects.result goings ∷ Asks ∷ [],
+      flush_after g.S.Stream g.N.Network g.L.Notes now rested moments old done looked flushed new c.happen-effects.result goings
           (parts_moments g.S.Stream g.N.Network g.L.Notes now rested after accepting receiving serving c.accept-accepted.result c.receive-received.result old accepted received done accepts receives serves)
           (parts_are g.S.Stream g.N.Network g.L.Notes now rested after accepting receiving serving c.accept-accepted.result c.receive-received.result old accepted received done accepts receives serves rests)
           (record { rest = refl; nothing = inr (inr c.look.ensures) })
-          (happened g.S.Stream g.N.Network g.L.Notes now Flush c.step-effects.result goings looked looked told flushed refl (λ m kept. c.step-effects.ensures.step m kept) refl c.deliver.ensures.happened.1)
+          (happened g.S.Stream g.N.Network g.L.Notes now Flush c.happen-effects.result goings looked looked told flushed refl c.happen-effects.ensures.takes c.happen-effects.ensures.observed refl c.deliver.ensures.happened.1)
           (record { rest = refl; nothing = inr (inr c.look-then-has_waiting.ensures) }),
       λ none. absurd (let clash : true ≡ false = none in cc),
     )
@@ -119,9 +119,9 @@ returns-then-has_waiting-clause-unused g c = λ not m kept.
     let leads = served_leads g.S.Stream g.N.Network g.L.Notes now after serving received done serves in
     let visits = λ (is : after ≡ Some now). not (rests is) in
     let looked = served c.serve_connections-visited.new.primary c.serve_connections-visited.new.self c.look.new.self c.serve_connections-visited.new.notes in
-    let told = served c.step-effects.new.self c.serve_connections-visited.new.self c.look.new.self c.serve_connections-visited.new.notes in
+    let told = served c.happen-effects.new.primary c.serve_connections-visited.new.self c.look.new.self c.happen-effects.new.notes in
     let flushed = served c.deliver.new.primary c.deliver.new.self c.deliver.new.network c.deliver.new.notes in
-    let flush = happens g.S.Stream g.N.Network g.L.Notes now Flush c.step-effects.result looked looked told flushed refl (λ m kept. c.step-effects.ensures.step m kept) refl c.deliver.ensures.happened in
+    let flush = happens g.S.Stream g.N.Network g.L.Notes now Flush c.happen-effects.result looked looked told flushed refl c.happen-effects.ensures.takes c.happen-effects.ensures.observed refl c.deliver.ensures.happened in
     unused_after g.S.Stream g.N.Network g.L.Notes now old.connections looked flushed (unused_between g.S.Stream g.N.Network g.L.Notes now old received done first leads (λ e kept'. c.serve_connections-visited.ensures.unused visits e kept') m kept) flush
 
 pub returns-then-has_waiting-clause-stalled : goal.returns-then-has_waiting-clause-stalled
@@ -141,9 +141,9 @@ returns-then-has_waiting-clause-stalled g c = λ not.
     let leads = served_leads g.S.Stream g.N.Network g.L.Notes now after serving received done serves in
     let visits = λ (is : after ≡ Some now). not (rests is) in
     let looked = served c.serve_connections-visited.new.primary c.serve_connections-visited.new.self c.look.new.self c.serve_connections-visited.new.notes in
-    let told = served c.step-effects.new.self c.serve_connections-visited.new.self c.look.new.self c.serve_connections-visited.new.notes in
+    let told = served c.happen-effects.new.primary c.serve_connections-visited.new.self c.look.new.self c.happen-effects.new.notes in
     let flushed = served c.deliver.new.primary c.deliver.new.self c.deliver.new.network c.deliver.new.notes in
-    let flush = happens g.S.Stream g.N.Network g.L.Notes now Flush c.step-effects.result looked looked told flushed refl (λ m kept. c.step-effects.ensures.step m kept) refl c.deliver.ensures.happened in
+    let flush = happens g.S.Stream g.N.Network g.L.Notes now Flush c.happen-effects.result looked looked told flushed refl c.happen-effects.ensures.takes c.happen-effects.ensures.observed refl c.deliver.ensures.happened in
     stalled_after g.S.Stream g.N.Network g.L.Notes now old.connections looked flushed (stalled_between g.S.Stream g.N.Network g.L.Notes now old received done first leads (c.serve_connections-visited.ensures.stalled visits)) flush
 
 pub returns-then-has_waiting-clause-rested : goal.returns-then-has_waiting-clause-rested
