@@ -149,7 +149,7 @@ impl<S: Stream + Drop> Edge<S> {
         ensures rested { RestsAsBefore self.old self.new }
     {
         for header in headers {
-            self.send(alloc, network, primary, notes, header.to, &header.octets);
+            self.send(alloc, network, primary, notes, header.waited.to, &header.octets);
         }
     }
 

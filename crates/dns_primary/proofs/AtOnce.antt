@@ -17,7 +17,7 @@ use Rattle.dns_primary.specs.declared.event.To.{To}
 use Rattle.dns_primary.specs.declared.event.To.TheVariants as to
 use Rattle.dns_primary.specs.Machine.{ZoneState, Waits, Machine, kept_of, updates_of, peer_at, shown_zones}
 use Rattle.dns_primary.specs.Flush.{Sent, Replied, flushed, flush_sends, flushed_zones, released}
-use Rattle.dns_primary.specs.Update.{Asked, Admission, Rejects, Admits, admission, admission_in, admission_at, zone_position, waits, stages, judged_in, admitted, is_full, answer, room_lacked}
+use Rattle.dns_primary.specs.Update.{Asked, Admission, Rejects, Admits, admission, admission_in, admission_at, zone_position, newest_serial, waits, stages, judged_in, admitted, is_full, answer, room_lacked}
 use Rattle.dns_primary.specs.Step.{Event, Datagram, Connect, Arrives, Flush, Checkpoint, Pump, Closed, IsUpdateBegun, IsUpdated, Effects, IsRequestHandled, IsArrived, Goes, Lacks, Step, is_asking, is_update, arrived_update, failure, failure_on, failures}
 use Rattle.dns_primary.specs.Runs.{IsNoAcknowledgement, brings_update}
 use Rattle.dns_primary.proofs.Zonewise.{tested}
@@ -62,7 +62,7 @@ judged_refuses : (m : Machine) (a : Asked) (place : ℕ) (z : ZoneState) (v : Ve
 judged_refuses m a place z (Refuses rcode) = tt
 judged_refuses m a place z Keeps = tt
 judged_refuses m a place z (Leaves records) =
-    tested (λ (p : Machine × List Sent). AreRefusals p.1) (has_room (kept_of z) records) (stages m a place z records, []) (waits m a place rcode_servfail (updates_of z), [])
+    tested (λ (p : Machine × List Sent). AreRefusals p.1) (has_room (kept_of z) records) (stages m a place z records, []) (waits m a place rcode_servfail (newest_serial z) (updates_of z), [])
     (λ _. tt) (λ _. tt)
 
 admitted_refuses : (m : Machine) (a : Asked) (d : Admission) → IsRefusing d → AreRefusals (admitted m a d).1

@@ -22,7 +22,7 @@ use Rattle.dns_primary.specs.declared.event.To.TheVariants as to
 use Rattle.dns_primary.specs.Machine.{Made, ZoneState, Waits, Machine, kept_of, updates_of, peer_at, sending_at}
 use Rattle.dns_primary.specs.Flush.{Sent, is_closed_in, is_none_made, flushed, flushed_zone, flushed_zones, flush_sends}
 use Rattle.dns_primary.specs.Connections.{closed, without_connection}
-use Rattle.dns_primary.specs.Update.{Asked, Admission, Rejects, Admits, zone_position, admission_in, admission_at, admission, waits, stages, with_staged, accepted_in, judged_in, admitted, is_full, made_place, answer, room_lacked}
+use Rattle.dns_primary.specs.Update.{Asked, Admission, Rejects, Admits, zone_position, admission_in, admission_at, admission, newest_serial, waits, stages, with_staged, accepted_in, judged_in, admitted, is_full, made_place, answer, room_lacked}
 use Rattle.dns_primary.specs.Checkpoint.{rebased, IsMovedUnlessClosed, IsCheckpoint}
 use Rattle.dns_primary.specs.Step.{Event, Datagram, Connect, Arrives, Flush, Checkpoint, Pump, Closed, IsCheckpointed, IsUpdateBegun, IsUpdated, Effects, AreFailures, IsRequestHandled, IsArrived, Goes, Lacks, Step}
 use Rattle.dns_primary.specs.Stop.{AreRecovered, IsSetAnew, IsConfigured}
@@ -119,9 +119,9 @@ begun_fits fails old (Some lacked) first mid b h = checkpoint_fits lacked.0 lack
 one_more : {X : Type 0} (xs : List X) (x : X) → length (xs ++ x ∷ []) ≡ suc (length xs)
 one_more xs x = length-append xs (x ∷ []) ∙ omega arith
 
-wait_fits : (m : Machine) (a : Asked) (place rcode : ℕ) (updates : List Made) → is_closed_in (slice_get m.zones place) ≡ false → HasRoom m → AllFit (waits m a place rcode updates)
-wait_fits m a place rcode updates opened h =
-    let one : Waits = record { to = a.to; header = a.message.header; rcode = rcode; zone = place; updates = updates } in
+wait_fits : (m : Machine) (a : Asked) (place rcode serial : ℕ) (updates : List Made) → is_closed_in (slice_get m.zones place) ≡ false → HasRoom m → AllFit (waits m a place rcode serial updates)
+wait_fits m a place rcode serial updates opened h =
+    let one : Waits = record { to = a.to; address = a.address; header = a.message.header; rcode = rcode; zone = place; serial = serial; updates = updates } in
     let len = one_more m.waiting one in
     let room = h.room in
     record {
@@ -157,7 +157,7 @@ stage_fits m a place z records stands opened h =
     let zones_after = slice_set m.zones place (with_staged made z) in
     let staged = staged_fits n made z h.room opened (all_found (Fits n) m.zones place z (h.fit).each stands) in
     let each = all_set (Fits (suc n)) m.zones place (with_staged made z) (all_more n (suc n) m.zones (omega arith) (h.fit).each) staged in
-    let one : Waits = record { to = a.to; header = a.message.header; rcode = 0; zone = place; updates = updates_of (with_staged made z) } in
+    let one : Waits = record { to = a.to; address = a.address; header = a.message.header; rcode = 0; zone = place; serial = newest_serial (with_staged made z); updates = updates_of (with_staged made z) } in
     let len = one_more m.waiting one in
     let room = h.room in
     let same : (number : ℕ) → is_closed_in (slice_get zones_after number) ≡ is_closed_in (slice_get m.zones number) = λ number. set_open m.zones place number z (with_staged made z) stands refl in
@@ -172,13 +172,13 @@ AnswerFits p = AllFit p.0
 
 accepted_fits : (m : Machine) (a : Asked) (place : ℕ) (z : ZoneState) (records : List Record) → slice_get m.zones place ≡ Some z → z.closed ≡ false → HasRoom m → AnswerFits (accepted_in m a place z records)
 accepted_fits m a place z records stands opened h =
-    tested AnswerFits (has_room (kept_of z) records) (stages m a place z records, []) (waits m a place rcode_servfail (updates_of z), [])
+    tested AnswerFits (has_room (kept_of z) records) (stages m a place z records, []) (waits m a place rcode_servfail (newest_serial z) (updates_of z), [])
     (λ _. stage_fits m a place z records stands opened h)
-    (λ _. wait_fits m a place rcode_servfail (updates_of z) (ap is_closed_in stands ∙ opened) h)
+    (λ _. wait_fits m a place rcode_servfail (newest_serial z) (updates_of z) (ap is_closed_in stands ∙ opened) h)
 
 judged_fits : (m : Machine) (a : Asked) (place : ℕ) (z : ZoneState) (v : Verdict) → slice_get m.zones place ≡ Some z → z.closed ≡ false → HasRoom m → AnswerFits (judged_in m a place z v)
-judged_fits m a place z (Refuses rcode) stands opened h = wait_fits m a place (number_of_rcode rcode) (updates_of z) (ap is_closed_in stands ∙ opened) h
-judged_fits m a place z Keeps stands opened h = wait_fits m a place 0 (updates_of z) (ap is_closed_in stands ∙ opened) h
+judged_fits m a place z (Refuses rcode) stands opened h = wait_fits m a place (number_of_rcode rcode) (newest_serial z) (updates_of z) (ap is_closed_in stands ∙ opened) h
+judged_fits m a place z Keeps stands opened h = wait_fits m a place 0 (newest_serial z) (updates_of z) (ap is_closed_in stands ∙ opened) h
 judged_fits m a place z (Leaves records) stands opened h = accepted_fits m a place z records stands opened h
 
 -- a zone that is admitted is open

@@ -22,7 +22,7 @@ use Rattle.dns_primary.specs.declared.event.To.{To}
 use Rattle.dns_primary.specs.declared.event.To.TheVariants as to
 use Rattle.dns_primary.specs.Machine.{Setting, Made, ZoneState, Machine, kept_of, updates_of, shown_zones, peer_at, sending_at}
 use Rattle.dns_primary.specs.Flush.{Sent, flushed, flush_sends, flushed_zones}
-use Rattle.dns_primary.specs.Update.{Asked, Admission, Rejects, Admits, zone_position, admission_in, admission_at, admission, waits, stages, with_staged, accepted_in, judged_in, admitted, is_full, answer}
+use Rattle.dns_primary.specs.Update.{Asked, Admission, Rejects, Admits, zone_position, admission_in, admission_at, admission, newest_serial, waits, stages, with_staged, accepted_in, judged_in, admitted, is_full, answer}
 use Rattle.dns_primary.specs.Checkpoint.{IsCheckpoint}
 use Rattle.dns_primary.specs.Step.{Event, Datagram, Connect, Arrives, Flush, Checkpoint, Pump, Closed, IsCheckpointed, IsUpdateBegun, IsUpdated, Effects, IsRequestHandled, IsArrived, IsConnected, Goes, Lacks, Step}
 use Rattle.dns_primary.specs.Stop.{IsMaking, IsRecovered, AreRecovered, IsStopped, IsSetAnew}
@@ -177,7 +177,7 @@ module _ (old : Machine) (event : Event) (a : Asked) (b : IsBrought old event a)
 
   accepted_brings : (m : Machine) → Each2 Same old.zones m.zones → (place : ℕ) (z : ZoneState) (records : List Record) → IsAllowed m.zones a place z → Goes_to m (accepted_in m a place z records)
   accepted_brings m same place z records h =
-      tested (Goes_to m) (has_room (kept_of z) records) (stages m a place z records, []) (waits m a place rcode_servfail (updates_of z), [])
+      tested (Goes_to m) (has_room (kept_of z) records) (stages m a place z records, []) (waits m a place rcode_servfail (newest_serial z) (updates_of z), [])
       (λ _.
       (let made : Made = record { update = a.message; records = records } in
       let before = pair_found_before Same old.zones m.zones place z same h.stands in

@@ -34,7 +34,7 @@ use Rattle.dns_primary.specs.declared.event.Noted.TheVariants.{OutOfMemory}
 use Rattle.dns_primary.specs.Machine.{Made, ZoneState, Waits, Machine, kept_of, updates_of, shown_zones, peer_at, sending_at}
 use Rattle.dns_primary.specs.Flush.{Sent, Answered, Replied, flushed, flush_sends, released, is_closed_in}
 use Rattle.dns_primary.specs.Connections.{without_connection}
-use Rattle.dns_primary.specs.Update.{Asked, Admission, Rejects, Admits, admission, admission_at, admission_in, zone_position, waits, stages, replies, accepted_in, judged_in, admitted, is_full, made_place, answer, room_lacked}
+use Rattle.dns_primary.specs.Update.{Asked, Admission, Rejects, Admits, admission, admission_at, admission_in, zone_position, newest_serial, waits, stages, replies, accepted_in, judged_in, admitted, is_full, made_place, answer, room_lacked}
 use Rattle.dns_primary.specs.Transfer.{transfer_version, zone_named, transport_of, is_free, may_have, OpensFrom, refusal_of, TransferBegins, IsStarted, IsTransferred, IsSentOn, IsPumped}
 use Rattle.dns_primary.specs.Step.{Event, Datagram, Connect, Arrives, Flush, Checkpoint, Pump, Closed, IsCheckpointed, IsUpdateBegun, IsUpdated, Effects, IsRequestHandled, IsArrived, Goes, Step}
 use Rattle.dns_primary.specs.Runs.{IsReleasedFrom}
@@ -90,8 +90,8 @@ AnswerCause m a = IsForClosed m a ⊎ LacksRoom m a
 abbrev AreWaiting : Type 0 → Machine → Machine → Type 0
 AreWaiting Cause old m = AllByRecursion (WaitsBy Cause old) m.waiting
 
-one_more : (Cause : Type 0) (old m : Machine) (a : Asked) (place rcode : ℕ) (updates : List Made) → AreWaiting Cause old m → (rcode ≡ 2 → Cause) → Ended Cause old (waits m a place rcode updates, [])
-one_more Cause old m a place rcode updates before cause = record { sent = tt; waiting = all_more (WaitsBy Cause old) m.waiting _ before (λ e. inr (cause e)) }
+one_more : (Cause : Type 0) (old m : Machine) (a : Asked) (place rcode serial : ℕ) (updates : List Made) → AreWaiting Cause old m → (rcode ≡ 2 → Cause) → Ended Cause old (waits m a place rcode serial updates, [])
+one_more Cause old m a place rcode serial updates before cause = record { sent = tt; waiting = all_more (WaitsBy Cause old) m.waiting _ before (λ e. inr (cause e)) }
 
 at_once : (Cause : Type 0) (old m : Machine) (a : Asked) (rcode : ℕ) → AreWaiting Cause old m → (rcode % 16 ≡ 2 → Cause) → Ended Cause old (m, replies a rcode ∷ [])
 at_once Cause old m a rcode before cause = record { sent = (cause, tt); waiting = before }
@@ -100,14 +100,14 @@ ends_accepted : (old m : Machine) (a : Asked) (place : ℕ) (z : ZoneState) (rec
     → verdict (newest_zone (kept_of z)) a.message.answers a.message.authorities ≡ Leaves records → Ended (AnswerCause m a) old (accepted_in m a place z records)
 ends_accepted old m a place z records before admits leaves =
     let Cause = AnswerCause m a in
-    tested (Ended Cause old) (has_room (kept_of z) records) (stages m a place z records, []) (waits m a place rcode_servfail (updates_of z), [])
+    tested (Ended Cause old) (has_room (kept_of z) records) (stages m a place z records, []) (waits m a place rcode_servfail (newest_serial z) (updates_of z), [])
     (λ _. record { sent = tt; waiting = all_more (WaitsBy Cause old) m.waiting _ before (λ e. absurd (omega (arith, e))) })
-    (λ none. one_more Cause old m a place rcode_servfail (updates_of z) before (λ _. inr (record { place = place; zone = z; records = records; admits = admits; leaves = leaves; room = none })))
+    (λ none. one_more Cause old m a place rcode_servfail (newest_serial z) (updates_of z) before (λ _. inr (record { place = place; zone = z; records = records; admits = admits; leaves = leaves; room = none })))
 
 ends_judged : (old m : Machine) (a : Asked) (place : ℕ) (z : ZoneState) (v : Verdict) → AreWaiting (AnswerCause m a) old m → admission m.zones a ≡ Admits place z
     → verdict (newest_zone (kept_of z)) a.message.answers a.message.authorities ≡ v → OtherVerdict v → Ended (AnswerCause m a) old (judged_in m a place z v)
-ends_judged old m a place z (Refuses rcode) before admits is other = one_more (AnswerCause m a) old m a place (number_of_rcode rcode) (updates_of z) before (λ e. absurd (other e))
-ends_judged old m a place z Keeps before admits is other = one_more (AnswerCause m a) old m a place 0 (updates_of z) before (λ e. absurd (omega (arith, e)))
+ends_judged old m a place z (Refuses rcode) before admits is other = one_more (AnswerCause m a) old m a place (number_of_rcode rcode) (newest_serial z) (updates_of z) before (λ e. absurd (other e))
+ends_judged old m a place z Keeps before admits is other = one_more (AnswerCause m a) old m a place 0 (newest_serial z) (updates_of z) before (λ e. absurd (omega (arith, e)))
 ends_judged old m a place z (Leaves records) before admits is other = ends_accepted old m a place z records before admits is
 
 ends_admitted : (old m : Machine) (a : Asked) (d : Admission) → AreWaiting (AnswerCause m a) old m → admission m.zones a ≡ d → IsRefusal m a d → Ended (AnswerCause m a) old (admitted m a d)

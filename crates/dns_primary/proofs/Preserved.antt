@@ -18,7 +18,7 @@ use Rattle.dns_primary.specs.declared.event.To.TheVariants as to
 use Rattle.dns_primary.specs.Machine.{Setting, ZoneState, Waits, Machine, kept_of, updates_of, peer_at, sending_at}
 use Rattle.dns_primary.specs.Flush.{Sent, Replied, flushed, flush_sends}
 use Rattle.dns_primary.specs.Connections.{connected, closed, without_connection}
-use Rattle.dns_primary.specs.Update.{Asked, Admission, Rejects, Admits, zone_position, admission_in, admission_at, admission, waits, stages, accepted_in, judged_in, admitted, is_full, made_place, answer, room_lacked}
+use Rattle.dns_primary.specs.Update.{Asked, Admission, Rejects, Admits, zone_position, admission_in, admission_at, admission, newest_serial, waits, stages, accepted_in, judged_in, admitted, is_full, made_place, answer, room_lacked}
 use Rattle.dns_primary.specs.Step.{Event, Datagram, Connect, Arrives, Flush, Checkpoint, Pump, Closed, IsCheckpointed, IsUpdateBegun, IsUpdated, Effects, AreFailures, GivesEffects, IsRequestHandled, IsArrived, Goes, Lacks, Step, is_asking, failure, failure_on, failures}
 use Rattle.dns_primary.specs.Checkpoint.{rebased, IsMovedUnlessClosed}
 use Rattle.dns_primary.specs.Runs.{Lasts, AllLast, IsTrueIn, HasHistory}
@@ -38,7 +38,7 @@ accepted_preserves : (m : Machine) (a : Asked) (place : ℕ) (z : ZoneState) (re
     → verdict (newest_zone (kept_of z)) a.message.answers a.message.authorities ≡ Leaves records
     → Carries m (accepted_in m a place z records)
 accepted_preserves m a place z records s e j =
-    tested (Carries m) (has_room (kept_of z) records) (stages m a place z records, []) (waits m a place rcode_servfail (updates_of z), [])
+    tested (Carries m) (has_room (kept_of z) records) (stages m a place z records, []) (waits m a place rcode_servfail (newest_serial z) (updates_of z), [])
     (λ has_it. stage_preserves m a place z records s e j has_it)
     (λ _. wait_preserves m a place rcode_servfail z s e)
 

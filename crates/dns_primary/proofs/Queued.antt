@@ -22,10 +22,11 @@ use Rattle.dns_primary.specs.declared.update.Outcome.{Outcome}
 use Rattle.dns_primary.specs.declared.update.Outcome.TheVariants as outcome
 use Rattle.dns_primary.specs.Machine.{Setting, Made, ZoneState, Machine, kept_of, updates_of, versions_of}
 use Rattle.dns_primary.specs.Flush.{Sent}
-use Rattle.dns_primary.specs.Update.{Asked, waits, stages, replies, with_staged, judged_in}
+use Rattle.dns_primary.specs.Update.{Asked, newest_serial, waits, stages, replies, with_staged, judged_in}
 use Rattle.dns_primary.specs.Outcome.{Ends, end_of}
 use Rattle.dns_primary.specs.Keeps.{IsSet, IsWaiting}
-use Rattle.dns_primary.specs.Queue.{HoldsZones}
+use Rattle.dns_primary.specs.Queue.{HoldsZones, IsOfNewest}
+use Rattle.dns_primary.proofs.Zonewise.{number_is}
 use Rattle.dns_primary.proofs.Places.{set_same, map_set, map_get, at3, mid_set, right_set, push2}
 
 pub kept_staged : (made : Made) (z : ZoneState) → kept_of (with_staged made z) ≡ staged_with made.records (kept_of z)
@@ -34,8 +35,7 @@ kept_staged made z = λ i. record { shape = z.setting.shape; loaded = z.loaded; 
 -- the reply waits, and the zone at the position has these versions
 pub record Waited (m : Machine) (a : Asked) (place : ℕ) (z : ZoneState) (rcode : Rcode) (versions : Kept) (ended : Machine × List Sent) : Type 0 where
   pub zone : ZoneState
-  pub updates : List Made
-  pub ended_is : ended ≡ (waits (record m { zones = slice_set m.zones place zone }) a place (number_of_rcode rcode) updates, [])
+  pub ended_is : ended ≡ (waits (record m { zones = slice_set m.zones place zone }) a place (number_of_rcode rcode) (newest_serial zone) (updates_of zone), [])
   pub versions_are : kept_of zone ≡ versions
   pub setting_is : zone.setting ≡ z.setting
 
@@ -45,11 +45,10 @@ EndsAs m a place z (outcome.AtOnce rcode) versions ended = (ended ≡ (m, replie
 EndsAs m a place z outcome.OutOfMemory versions ended = Unit {0}
 
 module _ (m : Machine) (a : Asked) (place : ℕ) (z : ZoneState) (there : slice_get m.zones place ≡ Some z) where
-  unchanged : (rcode : Rcode) → Waited m a place z rcode (kept_of z) (waits m a place (number_of_rcode rcode) (updates_of z), [])
+  unchanged : (rcode : Rcode) → Waited m a place z rcode (kept_of z) (waits m a place (number_of_rcode rcode) (newest_serial z) (updates_of z), [])
   unchanged rcode = record {
     zone = z;
-    updates = updates_of z;
-    ended_is = ap (λ (zs : List ZoneState). (waits (record m { zones = zs }) a place (number_of_rcode rcode) (updates_of z), [])) (sym (set_same m.zones place z there));
+    ended_is = ap (λ (zs : List ZoneState). (waits (record m { zones = zs }) a place (number_of_rcode rcode) (newest_serial z) (updates_of z), [])) (sym (set_same m.zones place z there));
     versions_are = refl;
     setting_is = refl;
   }
@@ -57,7 +56,6 @@ module _ (m : Machine) (a : Asked) (place : ℕ) (z : ZoneState) (there : slice_
   staged : (records : List Record) → Waited m a place z NoError (staged_with records (kept_of z)) (stages m a place z records, [])
   staged records = record {
     zone = with_staged (record { update = a.message; records = records }) z;
-    updates = updates_of (with_staged (record { update = a.message; records = records }) z);
     ended_is = refl;
     versions_are = kept_staged (record { update = a.message; records = records }) z;
     setting_is = refl;
@@ -71,7 +69,7 @@ module _ (m : Machine) (a : Asked) (place : ℕ) (z : ZoneState) (there : slice_
   abbrev ended_by : Bool → List Record → Machine × List Sent
   ended_by b after =
       if b then (stages m a place z after, [])
-      else (waits m a place rcode_servfail (updates_of z), [])
+      else (waits m a place rcode_servfail (newest_serial z) (updates_of z), [])
 
   accepted : (b : Bool) (after : List Record) → EndsAs m a place z (end_by b after).outcome (end_by b after).versions (ended_by b after)
   accepted true after = staged after
@@ -109,10 +107,11 @@ module _ {I S : Type 0} (keeps : S → Kept → Type 0) (zones : List Zone) (pen
   -- one reply more waits, and the zone has other versions
   pub holds_more : (d : Zone) (new : PendingZone I S) (a : Asked) (rcode : Rcode) (versions : Kept) (ended : Machine × List Sent) (one : Waiting) → HoldsZones keeps zones pending settings waiting m.connections m → slice_get m.zones place ≡ Some z
       → Waited m a place z rcode versions ended → HasVersions keeps (slice_index_or zones place d) new versions
-      → one.to ≡ a.to → header_of one.request ≡ a.message.header → one.rcode ≡ rcode → one.zone ≡ place
+      → one.to ≡ a.to → one.address ≡ a.address → header_of one.request ≡ a.message.header → one.rcode ≡ rcode → one.zone ≡ place → IsOfNewest versions one
       → (ended.1 ≡ []) × HoldsZones keeps zones (slice_set pending place new) settings (waiting ++ one ∷ []) m.connections ended.0
-  holds_more d new a rcode versions ended one held there w is to_is header_is rcode_is zone_is =
-      let after : Machine = waits (record m { zones = slice_set m.zones place w.zone }) a place (number_of_rcode rcode) w.updates in
+  holds_more d new a rcode versions ended one held there w is to_is address_is header_is rcode_is zone_is newest =
+      let after : Machine = waits (record m { zones = slice_set m.zones place w.zone }) a place (number_of_rcode rcode) (newest_serial w.zone) (updates_of w.zone) in
+      let of_zone : IsOfNewest (kept_of w.zone) one = subst (λ (k : Kept). IsOfNewest k one) (sym w.versions_are) newest in
       let behind_is : HasVersions keeps (slice_index_or zones place d) new (kept_of w.zone) = subst (λ (k : Kept). HasVersions keeps (slice_index_or zones place d) new k) (sym w.versions_are) is in
       let holds : HoldsZones keeps zones (slice_set pending place new) settings (waiting ++ one ∷ []) m.connections after = record {
         zones_are =
@@ -120,8 +119,8 @@ module _ {I S : Type 0} (keeps : S → Kept → Type 0) (zones : List Zone) (pen
             (mid_set (λ (z : Zone) (b : PendingZone I S) (k : Kept). HasVersions keeps z b k) zones pending (map kept_of m.zones) place d new (kept_of w.zone) held.zones_are behind_is);
         settings_are = right_set IsSet settings m.zones place z w.zone held.settings_are there
             (λ s set. record { keep = set.keep ∙ ap (λ (t : Setting). t.keep) (sym w.setting_is); update = λ x. subst (λ (t : Setting). IsTrue (t.may_update x) ↔ IsAllowed s.update.items x) (sym w.setting_is) (set.update x); transfer = λ x. subst (λ (t : Setting). IsTrue (t.may_transfer x) ↔ IsAllowed s.transfer.items x) (sym w.setting_is) (set.transfer x) });
-        waiting_are = push2 IsWaiting waiting m.waiting one (record { to = a.to; header = a.message.header; rcode = number_of_rcode rcode; zone = place; updates = w.updates }) held.waiting_are
-            (record { to = to_is; header = header_is; rcode = ap number_of_rcode rcode_is; zone = zone_is });
+        waiting_are = push2 IsWaiting waiting m.waiting one (record { to = a.to; address = a.address; header = a.message.header; rcode = number_of_rcode rcode; zone = place; serial = newest_serial w.zone; updates = updates_of w.zone }) held.waiting_are
+            (record { to = to_is; address = address_is; header = header_is; rcode = ap number_of_rcode rcode_is; zone = zone_is; version = of_zone.version ∙ number_is w.zone; serial = of_zone.serial });
         connections_are = held.connections_are;
       } in
       (ap (λ (p : Machine × List Sent). p.1) w.ended_is, subst (λ (p : Machine × List Sent). HoldsZones keeps zones (slice_set pending place new) settings (waiting ++ one ∷ []) m.connections p.0) (sym w.ended_is) holds)

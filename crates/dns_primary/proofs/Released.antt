@@ -17,7 +17,7 @@ use Rattle.dns_primary.specs.declared.event.To.TheVariants as to
 use Rattle.dns_primary.specs.Machine.{Made, ZoneState, Waits, Machine, kept_of, updates_of, peer_at, sending_at}
 use Rattle.dns_primary.specs.Flush.{Sent, Replied, flushed, flush_sends, flushed_zones, released, is_closed_in, is_none_made}
 use Rattle.dns_primary.specs.Checkpoint.{IsMovedUnlessClosed}
-use Rattle.dns_primary.specs.Update.{Asked, Admission, Rejects, Admits, admission, waits, stages, with_staged, replies, accepted_in, judged_in, admitted, is_full, made_place, answer, room_lacked}
+use Rattle.dns_primary.specs.Update.{Asked, Admission, Rejects, Admits, admission, newest_serial, waits, stages, with_staged, replies, accepted_in, judged_in, admitted, is_full, made_place, answer, room_lacked}
 use Rattle.dns_primary.specs.Step.{Event, Datagram, Connect, Arrives, Flush, Checkpoint, Pump, Closed, IsCheckpointed, IsUpdateBegun, IsUpdated, Effects, IsRequestHandled, IsArrived, Goes, Lacks, Step, is_asking, failure, failure_on, failures}
 use Rattle.dns_primary.specs.Runs.{IsReleasedFrom}
 use Rattle.dns_primary.proofs.Quiet.{transferred_quiet, pumped_quiet, replies_all}
@@ -104,21 +104,21 @@ record IsAnsweredIn (m : Machine) (ended : Machine × List Sent) : Type 0 where
   alike : AreClosedAlike m.zones (ended.0).zones
   sent : (old : Machine) → Releases old ended.0 ended.1
 
-waits_so : (m : Machine) (a : Asked) (place rcode : ℕ) (updates : List Made) → IsAnsweredIn m (waits m a place rcode updates, [])
-waits_so m a place rcode updates = record { alike = λ n. refl; sent = λ old. tt }
+waits_so : (m : Machine) (a : Asked) (place rcode serial : ℕ) (updates : List Made) → IsAnsweredIn m (waits m a place rcode serial updates, [])
+waits_so m a place rcode serial updates = record { alike = λ n. refl; sent = λ old. tt }
 
 replied_so : (m : Machine) (a : Asked) (rcode : ℕ) → IsAnsweredIn m (m, replies a rcode ∷ [])
 replied_so m a rcode = record { alike = λ n. refl; sent = λ old. (tt, tt) }
 
 accepted_so : (m : Machine) (a : Asked) (place : ℕ) (z : ZoneState) (records : List Record) → slice_get m.zones place ≡ Some z → IsAnsweredIn m (accepted_in m a place z records)
 accepted_so m a place z records e =
-    tested (IsAnsweredIn m) (has_room (kept_of z) records) (stages m a place z records, []) (waits m a place rcode_servfail (updates_of z), [])
+    tested (IsAnsweredIn m) (has_room (kept_of z) records) (stages m a place z records, []) (waits m a place rcode_servfail (newest_serial z) (updates_of z), [])
     (λ _. record { alike = set_alike m.zones place (record { update = a.message; records = records }) z e; sent = λ old. tt })
-    (λ _. waits_so m a place rcode_servfail (updates_of z))
+    (λ _. waits_so m a place rcode_servfail (newest_serial z) (updates_of z))
 
 judged_so : (m : Machine) (a : Asked) (place : ℕ) (z : ZoneState) (v : Verdict) → slice_get m.zones place ≡ Some z → IsAnsweredIn m (judged_in m a place z v)
-judged_so m a place z (Refuses rcode) e = waits_so m a place (number_of_rcode rcode) (updates_of z)
-judged_so m a place z Keeps e = waits_so m a place 0 (updates_of z)
+judged_so m a place z (Refuses rcode) e = waits_so m a place (number_of_rcode rcode) (newest_serial z) (updates_of z)
+judged_so m a place z Keeps e = waits_so m a place 0 (newest_serial z) (updates_of z)
 judged_so m a place z (Leaves records) e = accepted_so m a place z records e
 
 admitted_so : (m : Machine) (a : Asked) (d : Admission) → StandsIn m.zones d → IsAnsweredIn m (admitted m a d)

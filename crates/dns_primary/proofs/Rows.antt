@@ -1,6 +1,7 @@
 -- Worked examples: one zone with an update that waits for a flush.
 use Rattle.std.proofs.Common.{◌≡◌, true, false, [], ◌∷◌, refl}
 use Rattle.std.specs.Prelude.{None}
+use Rattle.std.specs.declared.net.ip_addr.IpAddr.{IpAddr}
 use Rattle.dns_wire.specs.Message.{Header, Message}
 use Rattle.dns_primary.specs.declared.event.To.{To}
 use Rattle.dns_primary.specs.declared.event.To.TheVariants.{Connection}
@@ -8,7 +9,7 @@ use Rattle.dns_primary.specs.Machine.{Setting, Made, ZoneState, Waits, Machine, 
 use Rattle.dns_primary.specs.Flush.{Answered, flushed, flush_sends, all_out}
 use Rattle.dns_primary.specs.Connections.{closed}
 
-module _ (update : Message) (header : Header) (setting : Setting) where
+module _ (update : Message) (address : IpAddr) (header : Header) (setting : Setting) where
   abbrev made : Made
   made = record { update = update; records = [] }
 
@@ -16,7 +17,7 @@ module _ (update : Message) (header : Header) (setting : Setting) where
   zone = record { setting = setting; loaded = []; shown = []; staged = made ∷ []; base = 0; second = None; openings = 0; closed = false }
 
   abbrev reply : To → Waits
-  reply to = record { to = to; header = header; rcode = 0; zone = 0; updates = made ∷ [] }
+  reply to = record { to = to; address = address; header = header; rcode = 0; zone = 0; serial = 0; updates = made ∷ [] }
 
   abbrev machine : To → Machine
   machine to = record { zones = zone ∷ []; waiting = reply to ∷ []; connections = [] }

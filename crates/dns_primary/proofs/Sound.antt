@@ -2,7 +2,6 @@
 use Rattle.std.proofs.Common.{◌≡◌, ◌+◌, ◌<◌, ◌≤◌, ◌^◌, ℕ, zero, suc, Bool, true, inl, inr, List, [], ◌∷◌, ◌++◌, length, map, Some, refl, sym, ap, subst, ◌∙◌, arith, append_assoc, append-nil}
 use Rattle.std.specs.Prelude.{◌-◌, ◌&&◌, nat_le, nat_lt, slice_get, slice_set, if◌then◌else◌}
 use Rattle.std.specs.List.{AllByRecursion}
-use Rattle.std.proofs.lemmas.List.{length-append, length-map}
 use Rattle.dns_records.specs.Record.{Record}
 use Rattle.dns_layout.specs.Sector.{snapshot_sectors}
 use Rattle.dns_wire.proofs.Binds.{true_le, true_lt}
@@ -18,9 +17,9 @@ use Rattle.dns_versions.specs.Staging.{has_room}
 use Rattle.dns_primary.specs.declared.event.To.{To}
 use Rattle.dns_primary.specs.Machine.{ZoneState, Made, Waits, Machine, kept_of, updates_of, versions_of}
 use Rattle.dns_primary.specs.Flush.{Sent, Answered, Replied, flushed_zones, flushed, flush_sends, released, is_closed_in}
-use Rattle.dns_primary.specs.Update.{Asked, waits, stages, with_staged}
+use Rattle.dns_primary.specs.Update.{Asked, newest_serial, waits, stages, with_staged}
 use Rattle.dns_primary.specs.Runs.{Lasts, AllLast, IsDurable, IsTrueIn, IsAccepted, HasHistory, IsHistory}
-use Rattle.dns_primary.proofs.Zonewise.{pair_found, pair_set, pair_over, all_found, all_set, lasts_same, all_last_same, all_last_on, same_history, IsFlushed, zone_flushed, history_more, newest_is, pair_map}
+use Rattle.dns_primary.proofs.Zonewise.{pair_found, pair_set, pair_over, all_found, all_set, lasts_same, all_last_same, all_last_on, same_history, IsFlushed, zone_flushed, history_more, newest_is, number_is, pair_map}
 
 -- the updates of a waiting reply are the first of its zone's
 pub record IsPlaced (zones : List ZoneState) (w : Waits) : Type 0 where
@@ -136,7 +135,7 @@ flush_preserves fails m long s =
     }
 
 -- a reply that waits
-pub wait_preserves : (m : Machine) (a : Asked) (place rcode : ℕ) (z : ZoneState) → IsSound m → slice_get m.zones place ≡ Some z → Preserves m (waits m a place rcode (updates_of z)) []
+pub wait_preserves : (m : Machine) (a : Asked) (place rcode : ℕ) (z : ZoneState) → IsSound m → slice_get m.zones place ≡ Some z → Preserves m (waits m a place rcode (newest_serial z) (updates_of z)) []
 wait_preserves m a place rcode z s e = record {
   lasts = all_last_same m.zones;
   sound = record {
@@ -150,13 +149,6 @@ set_stands : (zones : List ZoneState) (place : ℕ) (z w : ZoneState) → slice_
 set_stands [] place z w e = absurd cc
 set_stands (a ∷ zones) zero z w e = refl
 set_stands (a ∷ zones) (suc place) z w e = set_stands zones place z w e
-
-as_many : (z : ZoneState) → length (versions_of z.shown) + length (versions_of z.staged) ≡ 0 + length (updates_of z)
-as_many z =
-    let one = length-map z.shown (λ (m : Made). m.records) in
-    let two = length-map z.staged (λ (m : Made). m.records) in
-    let both = length-append z.shown z.staged in
-    omega (arith, one, two, both)
 
 -- an update with room is accepted on the newest version
 accepted_on : (z : ZoneState) (made : Made) → verdict (newest_zone (kept_of z)) made.update.answers made.update.authorities ≡ Leaves made.records → has_room (kept_of z) made.records ≡ true
@@ -174,7 +166,7 @@ accepted_on z made j room =
       few = true_le (length made.records) 65536 first.0;
       snapshot = true_le (snapshot_sectors (octets_of made.records)) k.shape.snapshot first.1;
       entry = subst (λ (rs : List Record). entry_between rs made.records ≤ k.shape.journal) (newest_is z) (true_le (entry_between (newest_of k) made.records) k.shape.journal third.1);
-      numbered = subst (λ (n : ℕ). n < 2 ^ 64 - 1) (as_many z) (true_lt (length k.shown + length k.staged) (2 ^ 64 - 1) last.1);
+      numbered = subst (λ (n : ℕ). n < 2 ^ 64 - 1) (number_is z) (true_lt (length k.shown + length k.staged) (2 ^ 64 - 1) last.1);
     }
 
 -- an update that is staged

@@ -1,13 +1,12 @@
 -- Replies that waited.
-use Rattle.std.proofs.Common.{◌≡◌, ◌<◌, ◌+◌, ℕ, zero, suc, false, List, [], ◌∷◌, ◌++◌, length, map, take, refl, sym, ◌∙◌, ap, arith, add-one, append-nil, append_assoc}
-use Rattle.std.specs.Prelude.{slice_index_or}
-use Rattle.std.specs.Prelude.{flat_map}
+use Rattle.std.proofs.Common.{◌≡◌, ◌<◌, ◌+◌, ℕ, zero, suc, Bool, true, false, List, [], ◌∷◌, ◌++◌, length, map, take, refl, sym, ◌∙◌, ap, arith, add-one, append-nil, append_assoc}
+use Rattle.std.specs.Prelude.{slice_index_or, flat_map, if◌then◌else◌}
 use Rattle.dns_versions.specs.Each.{Each2}
 use Rattle.dns_primary.specs.declared.event.Waiting.{Waiting}
 use Rattle.dns_primary.specs.declared.event.To.{To}
 use Rattle.dns_primary.specs.declared.event.To.TheVariants.{Address, Connection, Nowhere}
 use Rattle.dns_primary.specs.To.{is_nowhere}
-use Rattle.dns_primary.specs.Flush.{out_to}
+use Rattle.dns_primary.specs.Flush.{Sent, Answered, Replied, out_to, answered_in, answered_of}
 use Rattle.dns_primary.specs.Machine.{Waits}
 use Rattle.dns_primary.specs.Keeps.{IsWaiting}
 
@@ -43,3 +42,21 @@ pub out_somewhere : (to : To) (octets : List ℕ) → is_nowhere to ≡ false �
 out_somewhere (Address peer) octets some = refl
 out_somewhere (Connection number) octets some = refl
 out_somewhere Nowhere octets some = absurd (cc some)
+
+-- what goes out of those that waited
+pub answered_somewhere : (w : Waits) (rcode : ℕ) → is_nowhere w.to ≡ false → answered_in (Answered w rcode) ≡ w ∷ []
+answered_somewhere w rcode some = ap (λ (b : Bool). if b then [] else w ∷ []) some
+
+pub answered_nowhere : (w : Waits) (rcode : ℕ) → is_nowhere w.to ≡ true → answered_in (Answered w rcode) ≡ []
+answered_nowhere w rcode none = ap (λ (b : Bool). if b then [] else w ∷ []) none
+
+pub answered_append : (sent more : List Sent) → answered_of (sent ++ more) ≡ answered_of sent ++ answered_of more
+answered_append [] more = refl
+answered_append (s ∷ sent) more = (λ j. answered_in s ++ answered_append sent more j) ∙ sym (append_assoc (answered_in s) (answered_of sent) (answered_of more))
+
+pub answered_more : (sent : List Sent) (s : Sent) → answered_of sent ++ answered_in s ≡ answered_of (sent ++ s ∷ [])
+answered_more sent s = ap (λ (l : List Waits). answered_of sent ++ l) (sym (append-nil (answered_in s))) ∙ sym (answered_append sent (s ∷ []))
+
+-- another reply tells of none
+pub answered_replied : (sent : List Sent) (to : To) (octets : List ℕ) → answered_of (sent ++ Replied to octets ∷ []) ≡ answered_of sent
+answered_replied sent to octets = answered_append sent (Replied to octets ∷ []) ∙ append-nil (answered_of sent)

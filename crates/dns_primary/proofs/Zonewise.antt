@@ -2,6 +2,7 @@
 use Rattle.std.proofs.Common.{◌≡◌, ◌+◌, ℕ, zero, suc, Bool, true, false, ◌||◌, ◌⊎◌, inl, inr, List, [], ◌∷◌, ◌++◌, length, Some, refl, sym, ap, subst, ◌∙◌, arith, append_assoc, append-nil}
 use Rattle.std.specs.Prelude.{slice_get, slice_set, if◌then◌else◌}
 use Rattle.std.specs.List.{AllByRecursion}
+use Rattle.std.proofs.lemmas.List.{length-append, length-map}
 use Rattle.dns_records.specs.Record.{Record}
 use Rattle.dns_store.specs.Versions.{Shape, newest_after, newest_of}
 use Rattle.dns_versions.specs.Each.{Each2}
@@ -158,3 +159,10 @@ versions_joined (x ∷ xs) ys = ap (λ (vs : List (List Record)). x.records ∷ 
 
 pub newest_is : (z : ZoneState) → newest_of (kept_of z) ≡ newest_after z.loaded (versions_of (updates_of z))
 newest_is z = ap (newest_after z.loaded) (sym (versions_joined z.shown z.staged))
+
+pub number_is : (z : ZoneState) → length (versions_of z.shown) + length (versions_of z.staged) ≡ length (updates_of z)
+number_is z =
+    let one = length-map z.shown (λ (m : Made). m.records) in
+    let two = length-map z.staged (λ (m : Made). m.records) in
+    let both = length-append z.shown z.staged in
+    omega (arith, one, two, both)

@@ -6,6 +6,7 @@ use Rattle.dns_request.specs.Codes.{rcode_servfail}
 use Rattle.dns_answer.specs.Answer.{bare_reply}
 use Rattle.dns_primary.specs.declared.event.To.{To}
 use Rattle.dns_primary.specs.declared.event.To.TheVariants.{Address, Connection, Nowhere}
+use Rattle.dns_primary.specs.To.{is_nowhere}
 use Rattle.dns_primary.specs.Machine.{Made, ZoneState, Waits, Machine}
 
 -- What goes out: the reply to an update that waited, with this response code, or another reply.
@@ -58,3 +59,11 @@ goes_out (Replied to octets) = out_to to octets
 
 abbrev pub all_out : List Sent → List (To × List ℕ)
 all_out sent = flat_map goes_out sent
+
+-- The replies that waited and go somewhere, in order.
+abbrev pub answered_in : Sent → List Waits
+answered_in (Answered w rcode) = if is_nowhere w.to then [] else w ∷ []
+answered_in (Replied to octets) = []
+
+abbrev pub answered_of : List Sent → List Waits
+answered_of sent = flat_map answered_in sent

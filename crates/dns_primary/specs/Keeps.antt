@@ -27,7 +27,7 @@ use Rattle.dns_primary.specs.declared.primary.ZoneSpec.{ZoneSpec}
 use Rattle.dns_primary.specs.To.{octets_in}
 use Rattle.dns_primary.specs.declared.transfers.OpenTransfer.{OpenTransfer}
 use Rattle.dns_primary.specs.Machine.{Waits, Machine, ZoneState, kept_of, peer_at, sending_at}
-use Rattle.dns_primary.specs.Flush.{all_out}
+use Rattle.dns_primary.specs.Flush.{all_out, answered_of}
 use Rattle.dns_wire.specs.declared.codes.Rcode.{Rcode}
 use Rattle.dns_request.specs.Codes.{rcode_notauth}
 use Rattle.dns_primary.specs.Update.{Admission, Rejects, Admits}
@@ -39,12 +39,15 @@ abbrev pub HaveVersions : {I S : Type 0} → (S → Kept → Type 0) → List Zo
 HaveVersions keeps zones pending states =
     Each3 (λ z b k. HasVersions keeps z b k) zones pending (map kept_of states)
 
--- A reply that waits, as it is stored: the updates before it are in no field.
+-- A reply that waits, as it is stored: of the updates only how many there are.
 pub record IsWaiting (w : Waiting) (stated : Waits) : Type 0 where
   pub to : w.to ≡ stated.to
+  pub address : w.address ≡ stated.address
   pub header : header_of w.request ≡ stated.header
   pub rcode : number_of_rcode w.rcode ≡ stated.rcode
   pub zone : w.zone ≡ stated.zone
+  pub version : w.version ≡ length stated.updates
+  pub serial : w.serial ≡ stated.serial
 
 -- A checkpoint keeps so many changes, and the addresses from which a zone may be updated are those that its
 -- list allows, and so are those from which it may be transferred.
@@ -74,15 +77,17 @@ pub record IsKept {I S : Type 0} {i : index.Ghosts I} {s : store.Ghosts S} (p : 
   pub as_many : slab_len p.connections ≡ length m.connections
 
 abbrev pub header_out : HeaderTo → To × List ℕ
-header_out h = (h.to, h.octets)
+header_out h = (h.waited.to, h.octets)
 
 abbrev pub reply_out : Option Reply → List (To × List ℕ)
 reply_out None = []
 reply_out (Some r) = (r.to, octets_in r.octets) ∷ []
 
--- These are the effects: the replies that waited, in order, then the one to what came, if there is one.
+-- These are the effects: the replies that waited, in order, each with what was stored of it, then the one to
+-- what came, if there is one.
 pub record AreEffects (stated : machine.Effects) (effects : Effects) : Type 0 where
   pub sent : all_out stated.sent ≡ map header_out effects.headers.items ++ reply_out effects.message
+  pub told : Each2 (λ h w. IsWaiting h.waited w) effects.headers.items (answered_of stated.sent)
   pub accepted : stated.accepted ≡ effects.accepted
   pub noted : stated.noted ≡ effects.noted
 

@@ -57,13 +57,16 @@ kept_of z = record {
   closed = z.closed;
 }
 
--- A reply to an update, which waits for the next flush. `updates` are those of its zone when it was judged,
--- and the update itself if it was accepted.
+-- A reply to an update, which waits for the next flush, and the address that the update came from. `updates`
+-- are those of its zone when it was judged, and the update itself if it was accepted; `serial` is that of the
+-- zone's newest version then.
 pub record Waits : Type 0 where
   pub to : To
+  pub address : IpAddr
   pub header : Header
   pub rcode : ℕ
   pub zone : ℕ
+  pub serial : ℕ
   pub updates : List Made
 
 -- A connection, the peer that made it, and the transfer that is open on it.

@@ -1,9 +1,10 @@
 -- An update that is for a primary whose replies have room for one more, and what is said of it.
-use Rattle.std.specs.Prelude.{◌≡◌, ◌<◌, ℕ, true, false, List, [], ◌∷◌, length, slice_get, Some}
+use Rattle.std.specs.Prelude.{◌≡◌, ◌<◌, ◌+◌, ℕ, true, false, List, [], ◌∷◌, length, slice_get, Some}
 use Rattle.dns_records.specs.Record.{Record}
 use Rattle.dns_wire.specs.Codes.{number_of_rcode}
 use Rattle.dns_request.specs.Codes.{rcode_servfail}
-use Rattle.dns_zone.specs.Zone.{Zone}
+use Rattle.dns_zone.specs.Zone.{Zone, soas}
+use Rattle.dns_changes.specs.Version.{serial_in}
 use Rattle.dns_sectors.specs.Device.{Content}
 use Rattle.dns_store.specs.Versions.{Kept, StandsStill}
 use Rattle.dns_versions.specs.declared.pending.PendingZone.{PendingZone}
@@ -34,6 +35,11 @@ pub record IsUntouched {S : Type 0} (moment : S → ℕ) (left_since : S → ℕ
     (old new : S) : Type 0 where
   pub still : StandsStill moment left_since old new
   pub quiet : failed new ≡ failed old
+
+-- The reply has the number and the serial of the newest of these versions.
+pub record IsOfNewest (k : Kept) (w : Waiting) : Type 0 where
+  pub version : w.version ≡ length k.shown + length k.staged
+  pub serial : w.serial ≡ serial_in (soas (newest_zone k).records)
 
 -- The machine has these zones, with what backs them, these pending replies, and those connections.
 pub record HoldsZones {I S : Type 0} (keeps : S → Kept → Type 0) (zones : List Zone)

@@ -10,6 +10,8 @@ use Rattle.dns_wire.specs.Message.{Question, Message}
 use Rattle.dns_wire.specs.Text.{text}
 use Rattle.dns_request.specs.Codes.{rcode_formerr, rcode_notauth, rcode_refused, rcode_servfail}
 use Rattle.dns_answer.specs.Answer.{bare_reply}
+use Rattle.dns_zone.specs.Zone.{soas}
+use Rattle.dns_changes.specs.Version.{serial_in}
 use Rattle.dns_update.specs.Verdict.{Verdict, Refuses, Keeps, Leaves, verdict}
 use Rattle.dns_store.specs.Versions.{Kept}
 use Rattle.dns_versions.specs.Held.{newest_zone}
@@ -61,13 +63,23 @@ admission zones a =
     else if not (a.zone.qclass == class_in) then Rejects rcode_notauth
     else admission_at zones a.address (zone_position a.zone.name zones)
 
--- The reply waits.
-abbrev pub waits : Machine → Asked → ℕ → ℕ → List Made → Machine
-waits m a place rcode updates =
+-- The serial of a zone's newest version.
+abbrev pub newest_serial : ZoneState → ℕ
+newest_serial z = serial_in (soas (newest_zone (kept_of z)).records)
+
+-- The reply waits, with the serial and the updates of its zone.
+abbrev pub waits : Machine → Asked → ℕ → ℕ → ℕ → List Made → Machine
+waits m a place rcode serial updates =
     record m {
-      waiting = m.waiting
-          ++ record { to = a.to; header = a.message.header; rcode = rcode; zone = place; updates = updates }
-          ∷ [];
+      waiting = m.waiting ++ record {
+        to = a.to;
+        address = a.address;
+        header = a.message.header;
+        rcode = rcode;
+        zone = place;
+        serial = serial;
+        updates = updates;
+      } ∷ [];
     }
 
 abbrev pub with_staged : Made → ZoneState → ZoneState
@@ -78,7 +90,7 @@ abbrev pub stages : Machine → Asked → ℕ → ZoneState → List Record → 
 stages m a place z records =
     let made : Made = record { update = a.message; records = records } in
     waits (record m { zones = slice_set m.zones place (with_staged made z) }) a place 0
-    (updates_of (with_staged made z))
+    (newest_serial (with_staged made z)) (updates_of (with_staged made z))
 
 -- The reply goes out at once.
 abbrev pub replies : Asked → ℕ → Sent
@@ -89,12 +101,13 @@ replies a rcode = Replied a.to (text (bare_reply a.message.header rcode))
 abbrev pub accepted_in : Machine → Asked → ℕ → ZoneState → List Record → Machine × List Sent
 accepted_in m a place z records =
     if has_room (kept_of z) records then (stages m a place z records, [])
-    else (waits m a place rcode_servfail (updates_of z), [])
+    else (waits m a place rcode_servfail (newest_serial z) (updates_of z), [])
 
 -- What is judged waits, whether or not it changes the zone.
 abbrev pub judged_in : Machine → Asked → ℕ → ZoneState → Verdict → Machine × List Sent
-judged_in m a place z (Refuses rcode) = (waits m a place (number_of_rcode rcode) (updates_of z), [])
-judged_in m a place z Keeps = (waits m a place 0 (updates_of z), [])
+judged_in m a place z (Refuses rcode) =
+    (waits m a place (number_of_rcode rcode) (newest_serial z) (updates_of z), [])
+judged_in m a place z Keeps = (waits m a place 0 (newest_serial z) (updates_of z), [])
 judged_in m a place z (Leaves records) = accepted_in m a place z records
 
 -- It is judged on the newest version.

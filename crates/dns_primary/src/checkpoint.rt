@@ -90,6 +90,7 @@ impl<I: ZoneIndex, S: ZoneStore> Primary<I, S> {
         ensures step { (old : Machine) → IsKept self.old old
             → SteppedBy old (Checkpoint place) self.old self.new result }
         ensures bare { result.message ≡ None }
+        ensures as_many { length self.new.pending.items ≡ length self.old.pending.items }
     {
         if place >= self.pending.len() {
             return Effects::nothing(*self.places.allocator());

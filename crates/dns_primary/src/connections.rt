@@ -1,5 +1,5 @@
 //! Connections that come and go.
-ghost use Rattle.std.specs.Prelude.{◌≡◌, ◌≢◌, [], map, IfOk};
+ghost use Rattle.std.specs.Prelude.{◌≡◌, ◌≢◌, [], map, length, IfOk};
 ghost use Rattle.dns_primary.specs.declared.event.Waiting.{Waiting as Stated};
 ghost use Rattle.dns_primary.specs.declared.event.Noted.TheVariants.{OutOfMemory as StatedLack};
 ghost use Rattle.dns_primary.specs.Machine.{Machine};
@@ -66,6 +66,7 @@ impl<I: ZoneIndex, S: ZoneStore> Primary<I, S> {
             → Stepped old self.old self.new result
             (λ fails stated next. Step fails old (Connect peer) stated next) }
         ensures memory { result.noted ≢ StatedLack }
+        ensures as_many { length self.new.pending.items ≡ length self.old.pending.items }
     {
         let mut effects = Effects::nothing(*self.places.allocator());
         if self.connections.len() >= MOST_CONNECTIONS {
@@ -83,6 +84,7 @@ impl<I: ZoneIndex, S: ZoneStore> Primary<I, S> {
             → Stepped old self.old self.new result
             (λ fails stated next. Step fails old (Closed number) stated next) }
         ensures memory { result.noted ≢ StatedLack }
+        ensures as_many { length self.new.pending.items ≡ length self.old.pending.items }
     {
         let _closed = self.connections.try_remove(number);
         redirect(self.waiting.as_mut_slice(), number);

@@ -62,11 +62,11 @@ pub enum Event<'a> {
     Closed(usize),
 }
 
-/// A reply that is a header alone.
+/// A reply that waited, which is a header alone.
 #[derive(Clone, Copy)]
 pub struct HeaderTo {
-    /// Where it goes.
-    pub to: To,
+    /// The reply as it waited: it goes where that says.
+    pub waited: Waiting,
     /// Its octets.
     pub octets: [u8; 12],
 }
@@ -101,18 +101,25 @@ pub struct Reply {
     pub octets: ReplyOctets,
 }
 
-/// A reply to an update, which waits for the next flush: where it goes, the header of the request, the code,
-/// and the position of the zone.
+/// A reply to an update, which waits for the next flush: where it goes, the address that the update came
+/// from, the header of the request, the code, the position of the zone, and the zone's newest version.
 #[derive(Clone, Copy)]
 pub struct Waiting {
     /// Where it goes.
     pub to: To,
+    /// The address that the update came from.
+    pub address: IpAddr,
     /// The first octets of the request.
     pub request: [u8; 12],
     /// Its code, unless the zone is closed before.
     pub rcode: Rcode,
     /// The position of the zone.
     pub zone: usize,
+    /// The number of the zone's newest version when the update had been judged, the one that it made
+    /// included; the loaded one has 0.
+    pub version: u64,
+    /// The serial of that version.
+    pub serial: u32,
 }
 
 /// What is to be known of an event besides its replies.
@@ -168,9 +175,12 @@ impl Default for Waiting {
     fn default() -> Waiting {
         Waiting {
             to: To::Nowhere,
+            address: IpAddr::V4(Ipv4Addr::new(0, 0, 0, 0)),
             request: [0; 12],
             rcode: Rcode::NoError,
             zone: 0,
+            version: 0,
+            serial: 0,
         }
     }
 }

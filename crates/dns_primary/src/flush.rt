@@ -8,8 +8,8 @@ ghost use Rattle.dns_versions.specs.Each.{Each2, Each3};
 ghost use Rattle.dns_versions.specs.Held.{HasVersions, newest_each};
 ghost use Rattle.dns_versions.specs.Flush.{FailedWhere, first_true};
 ghost use Rattle.dns_primary.specs.Machine.{Machine, ZoneState, Waits};
-ghost use Rattle.dns_primary.specs.Flush.{all_out, flush_sends, flushed, goes_out, is_closed_in};
-ghost use Rattle.dns_primary.specs.Flush.{released};
+ghost use Rattle.dns_primary.specs.Flush.{all_out, answered_in, answered_of, flush_sends, flushed, goes_out};
+ghost use Rattle.dns_primary.specs.Flush.{is_closed_in, released};
 ghost use Rattle.dns_wire.specs.Text.{text};
 ghost use Rattle.dns_request.specs.Codes.{rcode_servfail};
 ghost use Rattle.dns_answer.specs.Answer.{bare_reply};
@@ -67,6 +67,10 @@ fn release<I: ZoneIndex, S: ZoneStore>(
         → HaveVersions S.keeps shown pending.now zones
         → IsWaiting waiting.now w
         → map header_out headers.new.items ≡ map header_out headers.old.items ++ goes_out (released zones w) }
+    ensures told { (zones : List ZoneState) (w : Waits) (before : List Waits)
+        → IsWaiting waiting.now w
+        → Each2 (λ h w. IsWaiting h.waited w) headers.old.items before
+        → Each2 (λ h w. IsWaiting h.waited w) headers.new.items (before ++ answered_in (released zones w)) }
     ensures few { length headers.new.items ≤ length headers.old.items + 1 }
     ensures capacity { vec_capacity headers.new ≡ vec_capacity headers.old }
 {
@@ -74,7 +78,7 @@ fn release<I: ZoneIndex, S: ZoneStore>(
         return;
     }
     headers.push_reserved(HeaderTo {
-        to: waiting.to,
+        waited: *waiting,
         octets: released_octets(pending, waiting),
     });
 }
@@ -91,6 +95,9 @@ fn release_all<I: ZoneIndex, S: ZoneStore>(
         → HaveVersions S.keeps shown pending.now zones
         → Each2 IsWaiting waiting.now.items ws
         → map header_out headers.new.items ≡ all_out (map (released zones) ws) }
+    ensures told { (zones : List ZoneState) (ws : List Waits)
+        → Each2 IsWaiting waiting.now.items ws
+        → Each2 (λ h w. IsWaiting h.waited w) headers.new.items (answered_of (map (released zones) ws)) }
     ensures few { length headers.new.items ≤ 32 }
 {
     let waiting = waiting.as_slice();
@@ -115,7 +122,9 @@ pub(crate) fn flush<I: ZoneIndex, S: ZoneStore>(
         → (fails : List Bool) × (length fails ≡ length m.zones)
         × FailedWhere (λ b. S.failed b.store) fails pending.old pending.new
         × HaveVersions S.keeps zones.new pending.new (flushed fails m).zones
-        × (map header_out headers.new.items ≡ all_out (flush_sends fails m)) × (result ≡ first_true fails) }
+        × (map header_out headers.new.items ≡ all_out (flush_sends fails m))
+        × Each2 (λ h w. IsWaiting h.waited w) headers.new.items (answered_of (flush_sends fails m))
+        × (result ≡ first_true fails) }
     ensures empty { waiting.new.items ≡ [] }
     ensures few { length headers.new.items ≤ 32 }
     ensures any_moment { (ks : List Kept)

@@ -190,6 +190,8 @@ impl<D: Sectors + Drop, I: ZoneIndex> Primary<I, KeptStore<D, I>> {
             (devices_of p))
             (λ e. LeaveRecovered D.Sectors (suc tries) m event 0 m.zones devices.entry.items
             e.devices.items) }
+        // It has a zone for each device, whatever was on them.
+        ensures count { IfOk result (λ p. count_of p ≡ length devices.entry.items) }
         // Each device was opened as its zone, whatever was on the others.
         ensures opened { IfOk result
             (AreAllOpened apexes.now settings.entry.items devices.entry.items) }

@@ -2,13 +2,14 @@
 ghost use Rattle.std.specs.Prelude.{◌≡◌, ◌<◌, ◌≤◌, List, length, IfOk};
 ghost use Rattle.dns_wire.specs.Message.{header_of};
 ghost use Rattle.dns_versions.specs.Each.{Each2};
-ghost use Rattle.dns_versions.specs.Held.{newest_each};
+ghost use Rattle.dns_store.specs.Versions.{Kept};
+ghost use Rattle.dns_versions.specs.Held.{HasVersions, newest_each};
 ghost use Rattle.dns_primary.specs.declared.primary.ZoneSpec.{ZoneSpec as Settings};
 ghost use Rattle.dns_primary.specs.Machine.{Machine};
 ghost use Rattle.dns_primary.specs.Update.{answer};
 ghost use Rattle.dns_primary.specs.Keeps.{HaveVersions, IsSet};
 ghost use Rattle.dns_primary.specs.Queue.{HoldsZones, HoldsStill, IsAnswered, IsReady, IsStageableAt};
-ghost use Rattle.dns_primary.specs.Queue.{IsTested};
+ghost use Rattle.dns_primary.specs.Queue.{IsOfNewest, IsTested};
 ghost use Rattle.dns_primary.specs.Queue.{IsUntouched, asked_of};
 
 use crate::admission::admit;
@@ -19,7 +20,7 @@ use dns_memory::Heap;
 use dns_names::Name;
 use dns_request::RequestMessage;
 use dns_store::ZoneStore;
-use dns_versions::PendingZone;
+use dns_versions::{PendingZone, newest};
 use dns_wire::Rcode;
 use dns_zone::{Zone, ZoneIndex};
 use std::alloc::AllocError;
@@ -84,6 +85,32 @@ pub(crate) fn admit_and_judge<I: ZoneIndex, S: ZoneStore>(
     }
 }
 
+/// The reply to an update of the zone at a position, which waits with this code after what was staged.
+fn waiting_reply<I: ZoneIndex, S: ZoneStore>(
+    zone: &Zone<I>,
+    pending: &PendingZone<I, S>,
+    place: usize,
+    update: &UpdateRequest<'_>,
+    rcode: Rcode,
+) -> Waiting
+    ensures to { result.to ≡ update.now.to }
+    ensures address { result.address ≡ update.now.address }
+    ensures request { result.request ≡ update.now.header.now }
+    ensures rcode { result.rcode ≡ rcode }
+    ensures zone { result.zone ≡ place }
+    ensures newest { (k : Kept) → HasVersions S.keeps zone.now pending.now k → IsOfNewest k result }
+{
+    Waiting {
+        to: update.to,
+        address: update.address,
+        request: *update.header,
+        rcode,
+        zone: place,
+        version: pending.store.newest(),
+        serial: newest(zone, pending).soa().serial(),
+    }
+}
+
 /// Stages what an update of the zone at a position makes, and lets its reply wait, unless the zone is closed:
 /// then it goes out at once.
 pub(crate) fn stage_at<I: ZoneIndex, S: ZoneStore>(
@@ -111,12 +138,8 @@ pub(crate) fn stage_at<I: ZoneIndex, S: ZoneStore>(
 {
     match stage_judged(&zones[place], &mut pending[place], judged) {
         Outcome::Waits(rcode) => {
-            waiting.push(Waiting {
-                to: update.to,
-                request: *update.header,
-                rcode,
-                zone: place,
-            });
+            let reply = waiting_reply(&zones[place], &pending[place], place, update, rcode);
+            waiting.push(reply);
             Outcome::Waits(rcode)
         }
         Outcome::AtOnce(rcode) => Outcome::AtOnce(rcode),

@@ -111,6 +111,7 @@ impl<I: ZoneIndex, S: ZoneStore> Primary<I, S> {
             → IsAnswered (IsKept self.new) m (asked_of update.now) (answer m (asked_of update.now)) result }
         ensures still { Each2 (λ a b. IsUntouched S.moment S.left_since S.failed a.store b.store)
             self.old.pending.items self.new.pending.items }
+        ensures as_many { length self.new.pending.items ≡ length self.old.pending.items }
     {
         let Ok(()) = self.places.reserve_exact(self.waiting.capacity()) else {
             return Outcome::OutOfMemory;
@@ -137,6 +138,7 @@ impl<I: ZoneIndex, S: ZoneStore> Primary<I, S> {
             → IsUpdateJudged I.records old (asked_of update.now) place judged
             → SteppedOn old (room_lacked old (asked_of update.now)) self.old self.new result
             (IsUpdatedOrLacks old (asked_of update.now)) }
+        ensures as_many { length self.new.pending.items ≡ length self.old.pending.items }
     {
         let effects = self.begin(alloc, place, judged.lacked());
         if lacks_memory(effects.noted) {
@@ -155,6 +157,7 @@ impl<I: ZoneIndex, S: ZoneStore> Primary<I, S> {
         ensures step { (old : Machine) → IsKept self.old old
             → SteppedOn old (room_lacked old (asked_of update.now)) self.old self.new result
             (IsUpdatedOrLacks old (asked_of update.now)) }
+        ensures as_many { length self.new.pending.items ≡ length self.old.pending.items }
     {
         let Ok(name) = update.request.question.name().to_name(alloc) else {
             return Effects::out_of_memory(alloc, update.to, update.header);
@@ -183,6 +186,7 @@ impl<I: ZoneIndex, S: ZoneStore> Primary<I, S> {
         ensures step { (old : Machine) → IsKept self.old old
             → SteppedOn old (request_lacks old to peer (handled (shown_zones old) octets.now transport))
             self.old self.new result (IsServedOrLacks old peer to octets.now transport) }
+        ensures as_many { length self.new.pending.items ≡ length self.old.pending.items }
     {
         match classify(octets, transport) {
             Request::Ignored => Effects::nothing(alloc),

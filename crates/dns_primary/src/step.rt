@@ -7,6 +7,7 @@ ghost use Rattle.dns_primary.specs.Connections.{most_connections};
 ghost use Rattle.dns_primary.specs.Machine.{Machine};
 ghost use Rattle.dns_primary.specs.Step.{Arrives, IsFlushed, noted_of, takes_memory};
 ghost use Rattle.dns_primary.specs.Fresh.{IsShown};
+ghost use Rattle.dns_primary.specs.Open.{count_of};
 ghost use Rattle.dns_primary.specs.Keeps.{IsKept};
 ghost use Rattle.dns_primary.specs.Steps.{Stepped, SteppedBy, event_shown};
 
@@ -65,6 +66,7 @@ impl<I: ZoneIndex, S: ZoneStore> Primary<I, S> {
     fn arrive(&mut self, alloc: Heap, number: usize, octets: &[u8]) -> Effects
         ensures step { (old : Machine) → IsKept self.old old
             → SteppedBy old (Arrives number octets.now) self.old self.new result }
+        ensures as_many { length self.new.pending.items ≡ length self.old.pending.items }
     {
         match self.connections.get(number).copied() {
             Some(peer) => self.serve(alloc, peer, To::Connection(number), octets, Transport::Tcp),
@@ -100,6 +102,8 @@ impl<I: ZoneIndex, S: ZoneStore> Primary<I, S> {
         ensures step { (old : Machine) → IsKept self.old old
             → SteppedBy old (event_shown event.entry) self.old self.new result }
         ensures memory { takes_memory (event_shown event.entry) ≡ false → result.noted ≢ StatedLack }
+        // Also of a primary that keeps no machine.
+        ensures count { count_of self.new ≡ count_of self.old }
         ensures few { length result.headers.items ≤ 32 }
         ensures below { (number : ℕ) → result.accepted ≡ Some number → number < most_connections }
     {

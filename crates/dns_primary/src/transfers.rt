@@ -306,6 +306,7 @@ impl<I: ZoneIndex, S: ZoneStore> Primary<I, S> {
         ensures step { (old : Machine) → IsKept self.old old → is_free to old.connections ≡ true
             → Stepped old self.old self.new result
             (TransferBeginsOrLacks old to (header_of header.now) session) }
+        ensures as_many { length self.new.pending.items ≡ length self.old.pending.items }
     {
         match to {
             To::Connection(number) => {
@@ -334,6 +335,7 @@ impl<I: ZoneIndex, S: ZoneStore> Primary<I, S> {
             (IsTransferredOrLacks old peer to request.now.message.octets request.now.message.message
             request.now.question) }
         ensures header { request.now.message.message.header ≡ header_of request.now.message.octets }
+        ensures as_many { length self.new.pending.items ≡ length self.old.pending.items }
     {
         let header = header_octets(request);
         match self.open_transfer(alloc, peer, to, request) {
@@ -351,6 +353,7 @@ impl<I: ZoneIndex, S: ZoneStore> Primary<I, S> {
         ensures step { (old : Machine) → IsKept self.old old
             → Stepped old self.old self.new result
             (λ fails stated next. Step fails old (Pump number) stated next) }
+        ensures as_many { length self.new.pending.items ≡ length self.old.pending.items }
     {
         match next_on(alloc, &mut self.transfers, number) {
             Ok(message) => message_on(alloc, number, message),

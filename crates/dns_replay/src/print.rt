@@ -55,7 +55,7 @@ fn print_headers<W: Write>(alloc: Heap, headers: &[HeaderTo], out: &mut W) -> io
         (flat_map printed_reply (map header_out headers.now))) }
 {
     for header in headers {
-        print_reply(alloc, header.to, &header.octets, out)?;
+        print_reply(alloc, header.waited.to, &header.octets, out)?;
     }
     Ok(())
 }

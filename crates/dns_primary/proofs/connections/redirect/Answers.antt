@@ -14,7 +14,7 @@ loop-one-preserved c =
     let i = c.loop-one.one-index in
     let now = c.loop-one.waiting in
     let xs = c.args.waiting.now in
-    let d : Waiting = record { to = Address (record { address = V4 (record { octets = [] }); port = 0; local = 0 }); request = []; rcode = NoError; zone = 0 } in
+    let d : Waiting = record { to = Address (record { address = V4 (record { octets = [] }); port = 0; local = 0 }); address = V4 (record { octets = [] }); request = []; rcode = NoError; zone = 0; version = 0; serial = 0 } in
     let f = λ (w : Waiting). record w { to = without_connection c.args.number w.to } in
     let inv : now ≡ map f (take i xs) ++ drop i xs = c.loop-one.invariant in
     let there : slice_index_or now i d ≡ slice_index_or xs i d = ap (λ (l : List Waiting). slice_index_or l i d) inv ∙ read_on f xs i d c.loop-one-test.true in

@@ -18,5 +18,6 @@ returns-clause-flushed g c m each waits =
       done.4,
       after,
       c.release_all.ensures.sent c.flush_all-failed.new.zones (flushed_zones fails m.zones) m.waiting after waits,
+      c.release_all.ensures.told (flushed_zones fails m.zones) m.waiting waits,
       done.3,
     )

@@ -87,6 +87,11 @@ returns-in-Err-clause-any_moment g c m event tries is =
     let refused = subst (λ (l : List ZoneSpec). AreRefused s c.in-Err.refusal.error c.in-Err.refusal.place c.args.apexes.now l c.args.devices.items back) c.deref.ensures.value c.in-Err.ensures in
     (refused_held AnySettings s m event tries g.met.D.Sectors.counts_now g.met.D.Sectors.only_now c.in-Err.refusal.error c.in-Err.refusal.place m.zones c.args.apexes.now c.args.settings.items c.args.devices.items back is refused).left
 
+pub returns-in-Ok-open_all-clause-count : goal.returns-in-Ok-open_all-clause-count
+returns-in-Ok-open_all-clause-count g c =
+    let many = opened_many (length c.deref.result.now) c.args.apexes.now c.deref.result.now c.args.devices.items c.in-Ok-open_all.all.zones.items c.in-Ok-open_all.all.pending.items c.in-Ok-open_all.ensures in
+    omega (arith, many.1, c.requires.as_many, ap (λ (l : List ZoneSpec). length l) c.deref.ensures.value)
+
 pub returns-in-Ok-open_all-clause-opened : goal.returns-in-Ok-open_all-clause-opened
 returns-in-Ok-open_all-clause-opened g c =
     subst (λ (l : List ZoneSpec). AreOpened (length l) c.args.apexes.now l c.args.devices.items c.in-Ok-open_all.all.zones.items c.in-Ok-open_all.all.pending.items) c.deref.ensures.value c.in-Ok-open_all.ensures

@@ -20,7 +20,7 @@ returns-clause-step g c old kept =
     let h = λ (w : Waits). record w { to = without_connection number w.to } in
     let new : c.redirect.new.waiting ≡ map f was = c.redirect.ensures ∙ ap (map f) c.as_mut_slice.ensures.value in
     let y = refilled (length was) c.redirect.new.waiting was (ap length new ∙ length-map was f) in
-    let waits : Each2 IsWaiting (map f was) (map h old.waiting) = map2 IsWaiting f h was old.waiting (λ a b r. record { to = ap (without_connection number) r.to; header = r.header; rcode = r.rcode; zone = r.zone }) kept.waiting_are in
+    let waits : Each2 IsWaiting (map f was) (map h old.waiting) = map2 IsWaiting f h was old.waiting (λ a b r. record { to = ap (without_connection number) r.to; address = r.address; header = r.header; rcode = r.rcode; zone = r.zone; version = r.version; serial = r.serial }) kept.waiting_are in
     let slab = c.args.self.now.connections in
     let left = c.try_remove-closed.new.self in
     record {

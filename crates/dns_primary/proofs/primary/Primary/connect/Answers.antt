@@ -30,7 +30,7 @@ returns-clause-step g c old kept =
       next = connected number c.args.peer old;
       stated = record { sent = []; accepted = Some number; noted = Nothing };
       is = inl (refl, inl (record { few = few; number = number; below = below; free = free; state = refl; reported = refl }));
-      effects_are = record { sent = effects_are.sent; accepted = refl; noted = effects_are.noted };
+      effects_are = record { sent = effects_are.sent; told = effects_are.told; accepted = refl; noted = effects_are.noted };
       kept = record {
         zones_are = kept.zones_are;
         settings_are = kept.settings_are;

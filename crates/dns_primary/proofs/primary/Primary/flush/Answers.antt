@@ -32,7 +32,7 @@ returns-clause-step g c old kept =
       next = flushed fails old;
       stated = record { sent = flush_sends fails old; accepted = None; noted = noted_of (first_true fails) };
       is = (done.1, record { state = refl; sent = refl; accepted = refl; noted = refl });
-      effects_are = record { sent = sym done.4 ∙ sym (append-nil (map header_out c.flush-failed.new.headers.items)); accepted = refl; noted = sym (c.noted.ensures.value ∙ ap noted_of done.5) };
+      effects_are = record { sent = sym done.4 ∙ sym (append-nil (map header_out c.flush-failed.new.headers.items)); told = done.5; accepted = refl; noted = sym (c.noted.ensures.value ∙ ap noted_of done.6) };
       kept = record {
         zones_are = moved3 (sym z) (sym y) (map kept_of (flushed fails old).zones) (λ z b k. HasVersions g.S.ZoneStore.keeps z b k) done.3;
         settings_are = flushed_settings c.args.self.now.settings.items fails old.zones kept.settings_are;

@@ -7,17 +7,17 @@ use Rattle.dns_sectors.specs.Device.{LeavesOnly}
 use Rattle.dns_store.specs.Versions.{Kept, OpensAsLeft}
 use Rattle.dns_store.specs.Checkpoint.{IsKeptNumber}
 use Rattle.dns_versions.specs.declared.pending.PendingZone.{PendingZone}
-use Rattle.dns_versions.specs.Each.{Each3}
+use Rattle.dns_versions.specs.Each.{Each2, Each3}
 use Rattle.dns_versions.proofs.Lists.{newest_kept}
 use Rattle.dns_versions.specs.Flush.{IsCounted, first_true}
 use Rattle.dns_versions.specs.Held.{HasVersions, shown_zone}
 use Rattle.dns_primary.specs.declared.event.Noted.{Noted}
 use Rattle.dns_primary.specs.declared.primary.ZoneSpec.{ZoneSpec}
 use Rattle.dns_primary.specs.Machine.{Setting, Machine, kept_of}
-use Rattle.dns_primary.specs.Flush.{all_out, flushed, flushed_zone}
+use Rattle.dns_primary.specs.Flush.{Sent, all_out, answered_of, flushed, flushed_zone}
 use Rattle.dns_primary.specs.Step.{noted_of}
 use Rattle.dns_primary.specs.Checkpoint.{either_fails}
-use Rattle.dns_primary.specs.Keeps.{IsKept, IsSet}
+use Rattle.dns_primary.specs.Keeps.{IsKept, IsSet, IsWaiting}
 use Rattle.dns_primary.specs.Steps.{noted_moved}
 use Rattle.dns_primary.proofs.Admitted.{get2}
 use Rattle.dns_primary.proofs.Flushed.{setting_stays}
@@ -80,6 +80,7 @@ returns-clause-step g c old kept =
       is = stepped old place fails z.0 zf moved.0 (s.is).0 z.1 at.1 c.args.room r moved.1;
       effects_are = record {
         sent = ap all_out (sym ((s.is).1).sent) ∙ (s.effects_are).sent;
+        told = subst (λ (sent : List Sent). Each2 (λ h w. IsWaiting h.waited w) c.flush-effects.result.headers.items (answered_of sent)) ((s.is).1).sent (s.effects_are).told;
         accepted = sym ((s.is).1).accepted ∙ (s.effects_are).accepted;
         noted = ap (λ (n : Noted). noted_moved n place r) (sym ((s.is).1).noted ∙ (s.effects_are).noted) ∙ sym c.noted_pending-effects.ensures;
       };

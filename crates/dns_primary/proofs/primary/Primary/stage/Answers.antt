@@ -65,3 +65,11 @@ returns-clause-still g c =
     let y = refilled self.pending.len new self.pending.items (omega (arith, c.stage_at.auto.pending, ap length pending, self.pending.ok)) in
     subst (λ l. Each2 (λ a b. IsUntouched g.S.ZoneStore.moment g.S.ZoneStore.left_since g.S.ZoneStore.failed a.store b.store) self.pending.items l) (sym y)
     (subst (λ l. Each2 (λ a b. IsUntouched g.S.ZoneStore.moment g.S.ZoneStore.left_since g.S.ZoneStore.failed a.store b.store) l new) pending c.stage_at.ensures.still)
+
+pub returns-clause-as_many : goal.returns-clause-as_many
+returns-clause-as_many g c =
+    let self = c.args.self.now in
+    let new = c.stage_at.new.pending in
+    let pending = c.deref_mut.ensures.value in
+    let y = refilled self.pending.len new self.pending.items (omega (arith, c.stage_at.auto.pending, ap length pending, self.pending.ok)) in
+    omega (arith, c.stage_at.auto.pending, ap length pending, ap length y)
