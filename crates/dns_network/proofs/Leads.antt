@@ -28,7 +28,7 @@ use Rattle.dns_primary.specs.Step.{Event, Closed, Flush}
 use Rattle.dns_primary.specs.Keeps.{IsWaiting}
 use Rattle.dns_network.specs.declared.network.Network.{Ghosts}
 use Rattle.dns_network.specs.declared.network.Note.TheVariants as note
-use Rattle.dns_network.specs.declared.network.Notes as notes
+use Rattle.dns_network.specs.declared.network.Observer as notes
 use Rattle.dns_network.specs.Delivery.{Served, Going, TakesEvent, AreGoing, AreSent, HasEffects, IsSent, reply_to_send}
 use Rattle.dns_network.specs.Turn.{TurnMoment, Asks, Moves, Happens, Closes, AreMoments, HasAsked, HasHappened, EventComes, IsCauseNoted, IsMoment, NoneWaits}
 use Rattle.dns_network.specs.Turns.{AreDone, HasParts}

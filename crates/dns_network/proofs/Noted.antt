@@ -10,7 +10,7 @@ use Rattle.dns_primary.specs.Step.{Event, Datagram, Connect, Arrives, Flush, Che
 use Rattle.dns_network.specs.declared.network.Network.{Ghosts}
 use Rattle.dns_network.specs.declared.network.Note.{Note}
 use Rattle.dns_network.specs.declared.network.Note.TheVariants as note
-use Rattle.dns_network.specs.declared.network.Notes as notes
+use Rattle.dns_network.specs.declared.network.Observer as notes
 use Rattle.dns_network.specs.Closing.{Cause, HasEnded, Silent, Stalled, NoMemory, NoPlace}
 use Rattle.dns_network.specs.Connections.{is_open}
 use Rattle.dns_network.specs.Delivery.{ClosedInstead, Going, HasNoted, IsSent, Served}

@@ -9,7 +9,7 @@ use Rattle.dns_network.specs.declared.stream.Moved.{Moved}
 use Rattle.dns_network.specs.declared.stream.Moved.TheVariants.{Octets, Later, Ended}
 use Rattle.dns_network.specs.declared.stream.Stream as stream
 use Rattle.dns_network.specs.declared.network.Network.{Ghosts}
-use Rattle.dns_network.specs.declared.network.Notes as notes
+use Rattle.dns_network.specs.declared.network.Observer as notes
 use Rattle.dns_network.specs.Connection.{MovesOn, held_of}
 use Rattle.dns_network.specs.Closing.{HasEnded}
 use Rattle.dns_network.specs.Connections.{HasBecome, HasMovedAt, HasReadAt, IsGoneOr, IsOpenWith, has_left_at, is_open, is_open_at}

@@ -19,7 +19,7 @@ use Rattle.dns_primary.specs.Runs.{Moment, Took, Run, last_of, machine_after}
 use Rattle.dns_network.specs.declared.network.Network.{Ghosts}
 use Rattle.dns_network.specs.declared.network.Note.{Note}
 use Rattle.dns_network.specs.declared.network.Note.TheVariants as note
-use Rattle.dns_network.specs.declared.network.Notes as notes
+use Rattle.dns_network.specs.declared.network.Observer as notes
 use Rattle.dns_network.specs.Closing.{Cause, HasEnded, Silent, Stalled, NoMemory, NoPlace}
 use Rattle.dns_network.specs.Delivery.{Served, Going, AreGoing, HasEffects, HasNoted, IsSent, TakesEvent}
 use Rattle.dns_network.specs.Turn.{TurnMoment, Asks, Moves, Connects, Refuses, Happens, Closes, AreMoments, HasAsked, EventComes, IsCauseNoted, IsMoment}

@@ -19,7 +19,7 @@ use Rattle.dns_primary.specs.Transfer as transfer
 use Rattle.dns_network.specs.declared.connection.Connection.{Connection}
 use Rattle.dns_network.specs.declared.network.Network.{Ghosts}
 use Rattle.dns_network.specs.declared.network.Note.TheVariants as note
-use Rattle.dns_network.specs.declared.network.Notes as notes
+use Rattle.dns_network.specs.declared.network.Observer as notes
 use Rattle.dns_network.specs.Connections.{IsNextQueued, HasPumped}
 use Rattle.dns_network.specs.Delivery.{AreGoing, ClosedInstead, Going, HasEffects, HasNoted, IsSent, Served, TakesEvent, out_of, reply_to_send}
 use Rattle.dns_network.proofs.Used.{Is, StaysQueued, gone_stays, pushed_stays}

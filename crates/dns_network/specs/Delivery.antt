@@ -17,7 +17,7 @@ use Rattle.dns_network.specs.declared.edge.Edge.{Edge}
 use Rattle.dns_network.specs.declared.network.Network.{Ghosts}
 use Rattle.dns_network.specs.declared.network.Note.{Note}
 use Rattle.dns_network.specs.declared.network.Note.TheVariants as note
-use Rattle.dns_network.specs.declared.network.Notes as notes
+use Rattle.dns_network.specs.declared.network.Observer as notes
 use Rattle.dns_network.specs.Notes.{AreNoted, notes_of}
 use Rattle.dns_network.specs.Steps.{AreSteps}
 

@@ -7,7 +7,7 @@ use Rattle.dns_primary.specs.declared.event.Noted.TheVariants as noted
 use Rattle.dns_primary.specs.Step.{Event}
 use Rattle.dns_network.specs.declared.network.Note.{Note}
 use Rattle.dns_network.specs.declared.network.Note.TheVariants.{Opened, Refused, OutOfMemory, Device}
-use Rattle.dns_network.specs.declared.network.Notes.{Ghosts}
+use Rattle.dns_network.specs.declared.network.Observer.{Ghosts}
 use Rattle.dns_network.specs.Steps.{AreSteps}
 
 -- of what a primary reports

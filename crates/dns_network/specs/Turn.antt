@@ -17,7 +17,7 @@ use Rattle.dns_primary.specs.Keeps.{IsKept}
 use Rattle.dns_primary.specs.Step.{Event, Datagram, Connect, Arrives, Flush, Checkpoint, Pump, Closed}
 use Rattle.dns_network.specs.declared.network.Network.{Ghosts}
 use Rattle.dns_network.specs.declared.network.Note.TheVariants as note
-use Rattle.dns_network.specs.declared.network.Notes as notes
+use Rattle.dns_network.specs.declared.network.Observer as notes
 use Rattle.dns_network.specs.Notes.{AreNoted, notes_of, notes_of_opened}
 use Rattle.dns_network.specs.Delivery.{Served, Going, TakesEvent, HasEffects, HasNoted, IsClosed}
 use Rattle.dns_network.specs.Steps.{AreSteps}

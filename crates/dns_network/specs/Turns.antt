@@ -11,7 +11,7 @@ use Rattle.dns_network.specs.declared.stream.Moved.TheVariants.{Octets, Later, E
 use Rattle.dns_network.specs.declared.stream.Stream as stream
 use Rattle.dns_network.specs.declared.network.Network.{Ghosts}
 use Rattle.dns_network.specs.declared.network.Note.TheVariants as note
-use Rattle.dns_network.specs.declared.network.Notes as notes
+use Rattle.dns_network.specs.declared.network.Observer as notes
 use Rattle.dns_network.specs.Closing.{HasEnded, Silent, Stalled, NoMemory, NoPlace}
 use Rattle.dns_network.specs.Connection.{IsReadLater, held_of}
 use Rattle.dns_network.specs.Connections.{IsGoneOr, IsOpenWith, has_left_at, is_open}

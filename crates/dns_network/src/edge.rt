@@ -20,7 +20,7 @@ ghost use Rattle.dns_network.specs.Turn.{places_for_all};
 ghost use Rattle.dns_network.specs.Turns.{AreDone, AreIdle, AreServed, HasItsPart, IsAccepting, IsReading};
 ghost use Rattle.dns_network.specs.Turns.{IsReceiving, IsTurn};
 
-use crate::{Connection, Connections, Moved, Network, Note, Notes, Stream};
+use crate::{Connection, Connections, Moved, Network, Note, Observer, Stream};
 use dns_memory::Heap;
 use dns_primary::{Effects, Event, HeaderTo, Noted, Peer, Primary, Reply, To};
 use dns_store::ZoneStore;
@@ -83,7 +83,7 @@ impl<S: Stream + Drop> Edge<S> {
     }
 
     /// Closes a connection: its stream is let go, and what waits to go to it goes nowhere.
-    fn close<I: ZoneIndex, D: ZoneStore, L: Notes>(
+    fn close<I: ZoneIndex, D: ZoneStore, L: Observer>(
         &mut self,
         alloc: Heap,
         primary: &mut Primary<I, D>,
@@ -104,7 +104,7 @@ impl<S: Stream + Drop> Edge<S> {
     /// Sends a reply to where it goes, or queues it there. A connection whose reply can't be queued is
     /// closed.
     #[inline(always)]
-    fn send<I: ZoneIndex, D: ZoneStore, N: Network<S>, L: Notes>(
+    fn send<I: ZoneIndex, D: ZoneStore, N: Network<S>, L: Observer>(
         &mut self,
         alloc: Heap,
         network: &mut N,
@@ -113,7 +113,7 @@ impl<S: Stream + Drop> Edge<S> {
         to: To,
         reply: &[u8],
     )
-        ensures sent { (cut : Bool) × IsSent N.Network L.Notes to reply.now cut
+        ensures sent { (cut : Bool) × IsSent N.Network L.Observer to reply.now cut
             (served primary.old self.old network.old notes.old)
             (served primary.new self.new network.new notes.new) }
         ensures rested { RestsAsBefore self.old self.new }
@@ -135,7 +135,7 @@ impl<S: Stream + Drop> Edge<S> {
 
     /// Sends the replies that waited, in their order.
     #[inline(always)]
-    fn send_headers<I: ZoneIndex, D: ZoneStore, N: Network<S>, L: Notes>(
+    fn send_headers<I: ZoneIndex, D: ZoneStore, N: Network<S>, L: Observer>(
         &mut self,
         alloc: Heap,
         network: &mut N,
@@ -143,19 +143,26 @@ impl<S: Stream + Drop> Edge<S> {
         notes: &mut L,
         headers: &[HeaderTo],
     )
-        ensures sent { AreSent N.Network L.Notes (map (λ h. header_out h) headers.now)
+        ensures sent { AreSent N.Network L.Observer (map (λ h. header_out h) headers.now)
             (served primary.old self.old network.old notes.old)
             (served primary.new self.new network.new notes.new) }
         ensures rested { RestsAsBefore self.old self.new }
     {
         for header in headers {
-            self.send(alloc, network, primary, notes, header.waited.to, &header.octets);
+            self.send(
+                alloc,
+                network,
+                primary,
+                notes,
+                header.waited.to,
+                &header.octets,
+            );
         }
     }
 
     /// Sends the reply to what came, if there is one.
     #[inline(always)]
-    fn send_reply<I: ZoneIndex, D: ZoneStore, N: Network<S>, L: Notes>(
+    fn send_reply<I: ZoneIndex, D: ZoneStore, N: Network<S>, L: Observer>(
         &mut self,
         alloc: Heap,
         network: &mut N,
@@ -163,7 +170,7 @@ impl<S: Stream + Drop> Edge<S> {
         notes: &mut L,
         reply: &Option<Reply>,
     )
-        ensures sent { AreSent N.Network L.Notes (reply_out reply.now)
+        ensures sent { AreSent N.Network L.Observer (reply_out reply.now)
             (served primary.old self.old network.old notes.old)
             (served primary.new self.new network.new notes.new) }
         ensures rested { RestsAsBefore self.old self.new }
@@ -177,7 +184,7 @@ impl<S: Stream + Drop> Edge<S> {
     /// Lets the effects of an event happen: the replies that waited in their order, then the one to what
     /// came; and reports the rest.
     #[inline(always)]
-    fn deliver<I: ZoneIndex, D: ZoneStore, N: Network<S>, L: Notes>(
+    fn deliver<I: ZoneIndex, D: ZoneStore, N: Network<S>, L: Observer>(
         &mut self,
         alloc: Heap,
         network: &mut N,
@@ -185,7 +192,7 @@ impl<S: Stream + Drop> Edge<S> {
         notes: &mut L,
         effects: Effects,
     )
-        ensures happened { (goings : List Going) × HasEffects N.Network L.Notes effects goings
+        ensures happened { (goings : List Going) × HasEffects N.Network L.Observer effects goings
             (served primary.old self.old network.old notes.old)
             (served primary.new self.new network.new notes.new) }
         ensures rested { RestsAsBefore self.old self.new }
@@ -199,7 +206,7 @@ impl<S: Stream + Drop> Edge<S> {
     /// One that gets no number, or can't be watched, is closed at once. It is compiled apart, so that a turn
     /// in which none comes doesn't pay for it.
     #[inline(never)]
-    fn open_connection<I: ZoneIndex, D: ZoneStore, N: Network<S>, L: Notes>(
+    fn open_connection<I: ZoneIndex, D: ZoneStore, N: Network<S>, L: Observer>(
         &mut self,
         alloc: Heap,
         network: &mut N,
@@ -209,7 +216,7 @@ impl<S: Stream + Drop> Edge<S> {
         peer: Peer,
         now: u64,
     )
-        ensures welcomed { IsWelcomed N.Network L.Notes now stream peer
+        ensures welcomed { IsWelcomed N.Network L.Observer now stream peer
             (served primary.old self.old network.old notes.old)
             (served primary.new self.new network.new notes.new) }
         ensures rested { RestsAsBefore self.old self.new }
@@ -248,7 +255,7 @@ impl<S: Stream + Drop> Edge<S> {
     }
 
     /// Accepts one connection, if a peer made one. One for which there is no place is let go at once.
-    fn accept<I: ZoneIndex, D: ZoneStore, N: Network<S>, L: Notes>(
+    fn accept<I: ZoneIndex, D: ZoneStore, N: Network<S>, L: Observer>(
         &mut self,
         alloc: Heap,
         network: &mut N,
@@ -257,7 +264,7 @@ impl<S: Stream + Drop> Edge<S> {
         now: u64,
     ) -> bool
         ensures accepts { (moments : List TurnMoment)
-            × IsAccepting S.Stream N.Network L.Notes now result moments
+            × IsAccepting S.Stream N.Network L.Observer now result moments
             (served primary.old self.old network.old notes.old)
             (served primary.new self.new network.new notes.new) }
         ensures rested { RestsAsBefore self.old self.new }
@@ -274,7 +281,7 @@ impl<S: Stream + Drop> Edge<S> {
     }
 
     /// Reads one datagram, if one came, and lets it be answered.
-    fn receive<I: ZoneIndex, D: ZoneStore, N: Network<S>, L: Notes>(
+    fn receive<I: ZoneIndex, D: ZoneStore, N: Network<S>, L: Observer>(
         &mut self,
         alloc: Heap,
         network: &mut N,
@@ -282,7 +289,7 @@ impl<S: Stream + Drop> Edge<S> {
         notes: &mut L,
     ) -> bool
         ensures receives { (now : ℕ) → (moments : List TurnMoment)
-            × IsReceiving S.Stream N.Network L.Notes now result moments
+            × IsReceiving S.Stream N.Network L.Observer now result moments
             (served primary.old self.old network.old notes.old)
             (served primary.new self.new network.new notes.new) }
         ensures rested { RestsAsBefore self.old self.new }
@@ -298,7 +305,7 @@ impl<S: Stream + Drop> Edge<S> {
 
     /// Queues the next message of the transfer that is open on a connection, and answers whether there was
     /// one. Where memory is refused there was none, and a later pump gives it.
-    fn pump<I: ZoneIndex, D: ZoneStore, N: Network<S>, L: Notes>(
+    fn pump<I: ZoneIndex, D: ZoneStore, N: Network<S>, L: Observer>(
         &mut self,
         alloc: Heap,
         network: &mut N,
@@ -308,7 +315,7 @@ impl<S: Stream + Drop> Edge<S> {
     ) -> bool
         ensures pumps { (now : ℕ) → (effects : StatedEffects) × (goings : List Going)
             × (result ≡ is_some effects.message)
-            × IsMoment S.Stream N.Network L.Notes now (Happens (Pump number) effects goings)
+            × IsMoment S.Stream N.Network L.Observer now (Happens (Pump number) effects goings)
             (served primary.old self.old network.old notes.old)
             (served primary.new self.new network.new notes.new) }
         ensures pumped { (m : Machine) → IsKept primary.old m
@@ -322,7 +329,7 @@ impl<S: Stream + Drop> Edge<S> {
 
     /// Reads one piece of a connection where there is none to handle, and handles one message. A connection
     /// that is silent then is closed.
-    fn read_piece<I: ZoneIndex, D: ZoneStore, N: Network<S>, L: Notes>(
+    fn read_piece<I: ZoneIndex, D: ZoneStore, N: Network<S>, L: Observer>(
         &mut self,
         alloc: Heap,
         network: &mut N,
@@ -332,7 +339,7 @@ impl<S: Stream + Drop> Edge<S> {
         now: u64,
     ) -> bool
         ensures reads { (moments : List TurnMoment)
-            × IsReading S.Stream N.Network L.Notes now number moments
+            × IsReading S.Stream N.Network L.Observer now number moments
             (served primary.old self.old network.old notes.old)
             (served primary.new self.new network.new notes.new) × (result ≡ false → AreIdle moments) }
         ensures silent { IsGoneOr (IsUnusedOrInUse now) (slice_get (connections_of self.old) number)
@@ -363,7 +370,7 @@ impl<S: Stream + Drop> Edge<S> {
     /// transfer is queued; else a piece is read, and a message handled. One that is stalled or silent then is
     /// closed.
     #[inline(always)]
-    fn serve_connection<I: ZoneIndex, D: ZoneStore, N: Network<S>, L: Notes>(
+    fn serve_connection<I: ZoneIndex, D: ZoneStore, N: Network<S>, L: Observer>(
         &mut self,
         alloc: Heap,
         network: &mut N,
@@ -373,7 +380,7 @@ impl<S: Stream + Drop> Edge<S> {
         now: u64,
     ) -> bool
         ensures part { (moments : List TurnMoment)
-            × HasItsPart S.Stream N.Network L.Notes now number moments
+            × HasItsPart S.Stream N.Network L.Observer now number moments
             (served primary.old self.old network.old notes.old)
             (served primary.new self.new network.new notes.new) × (result ≡ false → AreIdle moments) }
         // A connection that was stalled before is gone then, or it was used in this second.
@@ -408,7 +415,7 @@ impl<S: Stream + Drop> Edge<S> {
 
     /// Gives each connection its part of a turn, by rising number, and answers whether one had something to
     /// do. If none had in this second, and the network is still, they are passed over.
-    fn serve_connections<I: ZoneIndex, D: ZoneStore, N: Network<S>, L: Notes>(
+    fn serve_connections<I: ZoneIndex, D: ZoneStore, N: Network<S>, L: Observer>(
         &mut self,
         alloc: Heap,
         network: &mut N,
@@ -417,7 +424,7 @@ impl<S: Stream + Drop> Edge<S> {
         now: u64,
     ) -> bool
         ensures serves { (moments : List TurnMoment)
-            × AreServed S.Stream N.Network L.Notes now (rested_of self.old) moments
+            × AreServed S.Stream N.Network L.Observer now (rested_of self.old) moments
             (served primary.old self.old network.old notes.old)
             (served primary.new self.new network.new notes.new) × (result ≡ false → AreIdle moments) }
         // Unless none had something to do in this second, each that was unused or stalled is gone, or used.
@@ -442,7 +449,7 @@ impl<S: Stream + Drop> Edge<S> {
 
     /// Does what is to be done in a turn, and answers whether there was something.
     #[inline(always)]
-    fn work<I: ZoneIndex, D: ZoneStore, N: Network<S>, L: Notes>(
+    fn work<I: ZoneIndex, D: ZoneStore, N: Network<S>, L: Observer>(
         &mut self,
         alloc: Heap,
         network: &mut N,
@@ -451,7 +458,7 @@ impl<S: Stream + Drop> Edge<S> {
         now: u64,
     ) -> bool
         ensures done { (moments : List TurnMoment)
-            × AreDone S.Stream N.Network L.Notes now (rested_of self.old) moments
+            × AreDone S.Stream N.Network L.Observer now (rested_of self.old) moments
             (served primary.old self.old network.old notes.old)
             (served primary.new self.new network.new notes.new) × (result ≡ false → AreIdle moments) }
         ensures idle { result ≡ false → NoneWaits primary.new }
@@ -485,7 +492,7 @@ impl<S: Stream + Drop> Edge<S> {
     /// A read or a write that would wait does nothing, and one that fails closes its connection. So does
     /// refused memory. If a turn before, in the same second, found that no connection had something to do,
     /// and the network is still, the connections are passed over.
-    pub fn turn<I: ZoneIndex, D: ZoneStore, N: Network<S>, L: Notes>(
+    pub fn turn<I: ZoneIndex, D: ZoneStore, N: Network<S>, L: Observer>(
         &mut self,
         alloc: Heap,
         network: &mut N,
@@ -495,7 +502,7 @@ impl<S: Stream + Drop> Edge<S> {
     ) -> bool
         // All that is done, part by part; and it answers that nothing was done only if nothing was.
         ensures turn { (moments : List TurnMoment)
-            × IsTurn S.Stream N.Network L.Notes now (rested_of self.old) moments
+            × IsTurn S.Stream N.Network L.Observer now (rested_of self.old) moments
             (served primary.old self.old network.old notes.old)
             (served primary.new self.new network.new notes.new) × (result ≡ false → AreIdle moments) }
         ensures idle { result ≡ false → NoneWaits primary.new }
@@ -516,7 +523,7 @@ impl<S: Stream + Drop> Edge<S> {
 
 /// Lets an event happen, and has it observed.
 #[inline(always)]
-fn happen<I: ZoneIndex, D: ZoneStore, L: Notes>(
+fn happen<I: ZoneIndex, D: ZoneStore, L: Observer>(
     alloc: Heap,
     primary: &mut Primary<I, D>,
     notes: &mut L,
@@ -531,8 +538,8 @@ fn happen<I: ZoneIndex, D: ZoneStore, L: Notes>(
 }
 
 /// Tells what was noted of an event.
-fn tell<L: Notes>(notes: &mut L, noted: Noted)
-    ensures { AreNoted L.Notes (notes_of noted) notes.old notes.new }
+fn tell<L: Observer>(notes: &mut L, noted: Noted)
+    ensures { AreNoted L.Observer (notes_of noted) notes.old notes.new }
 {
     match noted {
         Noted::Nothing => {}

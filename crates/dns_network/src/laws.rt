@@ -1,7 +1,7 @@
 //! What the turns of a server are of the machine.
 ghost use Rattle.dns_network.specs.Runs.{TurnsAreRuns};
 
-use crate::{Network, Notes, Stream};
+use crate::{Network, Observer, Stream};
 use dns_store::ZoneStore;
 use dns_zone::ZoneIndex;
 
@@ -11,6 +11,6 @@ use dns_zone::ZoneIndex;
 ///
 /// So what is said of all runs, as by the laws of `dns_primary`, is said of what a server does. That the code
 /// makes such turns is what the clause of `Edge::turn` says.
-pub fn turns_law<I: ZoneIndex, D: ZoneStore, S: Stream, N: Network<S>, L: Notes>()
-    ensures { TurnsAreRuns I.ZoneIndex D.ZoneStore S.Stream N.Network L.Notes }
+pub fn turns_law<I: ZoneIndex, D: ZoneStore, S: Stream, N: Network<S>, L: Observer>()
+    ensures { TurnsAreRuns I.ZoneIndex D.ZoneStore S.Stream N.Network L.Observer }
 {}

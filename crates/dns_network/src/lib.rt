@@ -24,6 +24,6 @@ pub use framing::{Framing, Octets, framing_law, length_octets};
 pub use laws::turns_law;
 pub use memory_network::{MemoryNetwork, MemoryNotes};
 pub use memory_stream::MemoryStream;
-pub use network::{Network, Note, Notes};
+pub use network::{Network, Note, Observer};
 pub use outbox::Outbox;
 pub use stream::{Moved, Stream};

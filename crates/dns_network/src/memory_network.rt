@@ -4,7 +4,7 @@ ghost use Rattle.dns_network.specs.MemoryNetwork.{Accepts, Observes, Receives, S
 ghost use Rattle.dns_network.specs.MemoryNetwork.{TakesNote};
 ghost use Rattle.dns_network.specs.MemoryNetwork.{Watches, datagrams_from};
 
-use crate::{MemoryStream, Network, Note, Notes, Octets};
+use crate::{MemoryStream, Network, Note, Observer, Octets};
 use dns_memory::Heap;
 use dns_primary::{Effects, Event, Peer};
 use std::alloc::AllocError;
@@ -150,7 +150,7 @@ impl MemoryNotes {
     }
 }
 
-impl Notes for MemoryNotes {
+impl Observer for MemoryNotes {
     ghost takes = { TakesNote };
 
     ghost observes = { Observes };

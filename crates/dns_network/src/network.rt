@@ -85,8 +85,8 @@ pub enum Note {
     Ends,
 }
 
-/// To whom turns report.
-pub trait Notes {
+/// Who is told of turns.
+pub trait Observer {
     /// It may go on so where it took this note;
     ghost takes: { Self → StatedNote → Self → Type 0 };
 

@@ -150,7 +150,9 @@ const RUNS: &[Run] = &[
         }],
         received: &[REPLY],
         read: &[ANSWERS, FRAMED_REPLY],
-        log: "conn 0 open 127.0.0.1\nconn 1 open 127.0.0.1\nconn 1 closed\nconn 0 closed\n",
+        log: "conn 0 open 127.0.0.1\nconn 1 open 127.0.0.1\n\
+              update 127.0.0.1 example. NOERROR version 1 serial 8\n\
+              conn 1 closed\nconn 0 closed\n",
     },
     // One turn answers one of two datagrams.
     Run {

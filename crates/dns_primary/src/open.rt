@@ -233,11 +233,10 @@ impl<D: Sectors + Drop, I: ZoneIndex> Primary<I, KeptStore<D, I>> {
         self.pending.len()
     }
 
-    /// Puts the devices of all zones, in the order in which they came, at the front of this list, which has
-    /// room for them. It takes no memory. What was staged is lost, as by a stop.
-    pub fn into_devices(self, devices: &mut Vec<D, Heap>)
-        requires { count_of self + length devices.old.items ≤ vec_capacity devices.old }
-        ensures handed_out { devices.new.items ≡ devices_of self ++ devices.old.items }
+    /// The stores of all zones, in the order in which their devices came. It takes no memory. What was staged
+    /// is lost, as by a stop.
+    pub fn into_stores(self) -> Vec<PendingZone<I, KeptStore<D, I>>, Heap>
+        ensures handed_out { map (λ b. device_of_pending b) result.items ≡ devices_of self }
         // Between two events: a machine that it keeps, which stops here.
         ensures at_rest { (m : Machine) (event : StatedEvent) (apexes : List Labels)
             (settings : List StatedSettings)
@@ -258,6 +257,23 @@ impl<D: Sectors + Drop, I: ZoneIndex> Primary<I, KeptStore<D, I>> {
             connections: _,
             transfers: _,
         } = self;
-        take_back(devices, pending);
+        pending
+    }
+
+    /// Puts the devices of all zones, in the order in which they came, at the front of this list, which has
+    /// room for them. It takes no memory. What was staged is lost, as by a stop.
+    pub fn into_devices(self, devices: &mut Vec<D, Heap>)
+        requires { count_of self + length devices.old.items ≤ vec_capacity devices.old }
+        ensures handed_out { devices.new.items ≡ devices_of self ++ devices.old.items }
+        ensures at_rest { (m : Machine) (event : StatedEvent) (apexes : List Labels)
+            (settings : List StatedSettings)
+            → IsKept self m → AreSetAs apexes settings m.zones
+            → AreDevicesOf D.Sectors 0 m event apexes settings (devices_of self) }
+        ensures within { (m : Machine) (event : StatedEvent) (before : _) (effects : StatedEffects)
+            (apexes : List Labels) (settings : List StatedSettings)
+            → SteppedBy m event before self effects → AreSetAs apexes settings m.zones
+            → AreDevicesOf D.Sectors 0 m event apexes settings (devices_of self) }
+    {
+        take_back(devices, self.into_stores());
     }
 }

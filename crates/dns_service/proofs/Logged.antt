@@ -19,7 +19,7 @@ use Rattle.dns_primary.specs.declared.event.Effects.{Effects}
 use Rattle.dns_primary.specs.declared.primary.Primary.{Primary}
 use Rattle.dns_primary.specs.Keeps.{IsKept}
 use Rattle.dns_network.specs.declared.network.Network.{Ghosts}
-use Rattle.dns_network.specs.declared.network.Notes as notes
+use Rattle.dns_network.specs.declared.network.Observer as notes
 use Rattle.dns_network.specs.declared.network.Note.{Note}
 use Rattle.dns_network.specs.Notes.{AreReported, IsReported, OfEvent, OfNote, Report}
 use Rattle.dns_network.specs.Reports.{AreReportsOfTurns}

@@ -42,7 +42,7 @@ use Rattle.dns_network.specs.Runs.{IsStepOf, Told, told_by}
 use Rattle.dns_service.specs.Log.{IsLogOf, zone_lines}
 use Rattle.dns_service.specs.declared.server.ServeOptions.{ServeOptions}
 use Rattle.dns_service.specs.Opening.{AreIntact, IsNotServed, IsOpenedAs, IsServed, closings}
-use Rattle.dns_service.specs.Serve.{AreLetGo, AreServedFrom, HaveServed, IsRefusalTold, IsServedFor, IsServedSomehow, IsServingTried, ServingEnds}
+use Rattle.dns_service.specs.Serve.{AreServedFrom, HaveServed, IsRefusalTold, IsServedFor, IsServedSomehow, IsServingTried, ServingEnds}
 use Rattle.dns_service.specs.ServedTurns.{HasRun, HasTurned, HaveRun, IsLedTo}
 
 pub at_ok : {A E : Type 0} (r : Result A E) (P : A → Type 0) (x : A) → r ≡ Ok x → IfOk r P → P x
@@ -185,45 +185,6 @@ all_intact (suc n) (a ∷ apexes) (s ∷ settings) (d ∷ devices) (z ∷ zones)
     (h.0.intact, all_intact n apexes settings devices zones pending (omega (arith, count)) (omega (arith, named)) (omega (arith, many)) h.1)
 all_intact (suc n) (a ∷ apexes) (s ∷ settings) (d ∷ devices) [] pending count named many h = absurd h
 all_intact (suc n) (a ∷ apexes) (s ∷ settings) (d ∷ devices) (z ∷ zones) [] count named many h = absurd h
-
--- As many stores as there were at the start of a run.
-as_many_left : {I S : Type 0} (s : store.Ghosts S) (place : ℕ) (m : Machine) (run : List Moment) (olds news : List (PendingZone I S)) → AreLeftFrom s place m run olds news → length news ≡ length olds
-as_many_left s place m run [] [] h = refl
-as_many_left s place m run (a ∷ olds) (b ∷ news) h = ap suc (as_many_left s (suc place) m run olds news h.1)
-as_many_left s place m run [] (b ∷ news) h = absurd h
-as_many_left s place m run (a ∷ olds) [] h = absurd h
-
-as_many_recovered : {D : Type 0} (g : Ghosts D) (tries : ℕ) (m : Machine) (event : Event) (place : ℕ) (zones : List ZoneState) (olds news : List D) → LeaveRecovered g tries m event place zones olds news → length news ≡ length olds
-as_many_recovered g tries m event place [] [] [] h = refl
-as_many_recovered g tries m event place (z ∷ zones) (d ∷ olds) (e ∷ news) h = ap suc (as_many_recovered g tries m event (suc place) zones olds news h.1)
-as_many_recovered g tries m event place [] (d ∷ olds) news h = absurd h
-as_many_recovered g tries m event place [] [] (e ∷ news) h = absurd h
-as_many_recovered g tries m event place (z ∷ zones) [] news h = absurd h
-as_many_recovered g tries m event place (z ∷ zones) (d ∷ olds) [] h = absurd h
-
--- There was no room for the devices, though there was for one of each zone.
-pub let_go : {D I : Type 0} (g : Ghosts D) {i : index.Ghosts I} {s : store.Ghosts (KeptStore D I g)} (opening calls : List (DeviceCall D)) (config : File) (c : Configuration) (options : ServeOptions) (old new : Primary I (KeptStore D I g) i s) (room : ℕ) (err err_after : Option (List ℕ))
-    → HoldsConfiguration (option_copied config.octets) (Ok c) → IsServed g opening c.zones.items (IsOpenedAs old) → HasRun (λ m. IsKept old m) (IsLedTo old new) → calls ≡ [] → room < count_of new → length c.zones.items ≤ room → ServingEnds g (opening ++ calls) config options err err_after 3
-let_go {D = D} {I = I} g {s = s} opening calls config c options old new room err err_after holds is (turns, run) none few there =
-    let gone : opening ++ calls ≡ opening = ap (λ (t : List (DeviceCall D)). opening ++ t) none ∙ append-nil opening in
-    serving_failed g (opening ++ calls) config options err err_after (inr (
-      c,
-      holds,
-      inr (inr (subst (λ (t : List (DeviceCall D)). AreLetGo g t c.zones.items) (sym gone) (record {
-        devices = is.devices;
-        given = is.given;
-        known = is.known;
-        settings = is.settings;
-        intact = is.intact;
-        recovered = λ m event tries may.
-            let to = is.recovered m event tries may in
-            let ran = run to.0 to.2.0 in
-            let left = as_many_left {I = I} s 0 to.0 ran.0 old.pending.items new.pending.items ran.2.1 in
-            let opened = as_many_recovered g (suc tries) m event 0 m.zones is.devices (devices_of old) to.2.1 in
-            let same = length-map old.pending.items (λ (b : PendingZone I (KeptStore D I g)). store_device b.store) in
-            absurd (omega (arith, few, there, left, opened, same, is.given.0));
-      }))),
-    ))
 
 -- All turns were made, or the address could not be had.
 pub served : {D : Type 0} (g : Ghosts D) (calls : List (DeviceCall D)) (config : File) (c : Configuration) (options : ServeOptions) (err err_after : Option (List ℕ)) (status : ℕ) → HoldsConfiguration (option_copied config.octets) (Ok c) → IsServedSomehow g calls c.zones.items → (status ≡ 3) ⊎ ((status ≡ 0) × IsServedFor g calls c options err err_after) → ServingEnds g calls config options err err_after status

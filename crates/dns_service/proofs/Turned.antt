@@ -8,7 +8,7 @@ use Rattle.dns_store.specs.declared.zone_store.ZoneStore as store
 use Rattle.dns_primary.specs.declared.primary.Primary.{Primary}
 use Rattle.dns_primary.specs.Keeps.{IsKept}
 use Rattle.dns_network.specs.declared.network.Network.{Ghosts}
-use Rattle.dns_network.specs.declared.network.Notes as notes
+use Rattle.dns_network.specs.declared.network.Observer as notes
 use Rattle.dns_network.specs.Delivery.{Served}
 use Rattle.dns_network.specs.Turn.{TurnMoment, HasAsked}
 use Rattle.dns_network.specs.Turns.{AreTurns, IsRound, IsTurn}

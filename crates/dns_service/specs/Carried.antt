@@ -7,7 +7,7 @@ use Rattle.dns_primary.specs.declared.event.To.{To}
 use Rattle.dns_primary.specs.declared.event.To.TheVariants as to
 use Rattle.dns_primary.specs.Step as events
 use Rattle.dns_network.specs.declared.network.Network as network
-use Rattle.dns_network.specs.declared.network.Notes as notes
+use Rattle.dns_network.specs.declared.network.Observer as notes
 use Rattle.dns_network.specs.declared.stream.Stream as stream
 use Rattle.dns_network.specs.Datagrams.{Datagram}
 use Rattle.dns_network.specs.Delivery.{Served}

@@ -113,10 +113,6 @@ pub record IsServedSomehow {D : Type 0} (g : Ghosts D) (calls : List (DeviceCall
   pub turns : List (List TurnMoment)
   pub served : IsServed g opening zones (HaveServed g turns zones back)
 
--- The stores were opened, and the devices were not closed, which are those of no machine that stopped.
-abbrev pub AreLetGo : {D : Type 0} → Ghosts D → List (DeviceCall D) → List ZoneSettings → Type 0
-AreLetGo g calls zones = IsServed g calls zones (λ _ _ _ _ _ _. ⊥)
-
 -- The calls of a server: none; or devices of the zones of its configuration were opened, of which one was
 -- refused, or which it served.
 abbrev pub IsServingTried : {D : Type 0} → Ghosts D → List (DeviceCall D) → File → Type 0
@@ -124,8 +120,7 @@ IsServingTried g calls config =
     (calls ≡ [])
     ⊎ ((c : Configuration) × HoldsConfiguration (option_copied config.octets) (Ok c)
     × (((place : ℕ) × (fault : DeviceFault) × IsNotServed g calls c.zones.items place fault)
-    ⊎ IsServedSomehow g calls c.zones.items
-    ⊎ AreLetGo g calls c.zones.items))
+    ⊎ IsServedSomehow g calls c.zones.items))
 
 -- How a server ends: all its turns were made, over the devices of the zones of its configuration, and its log
 -- was written; or nothing was served, and the fault of the configuration or of the first device that is

@@ -9,7 +9,7 @@ use Rattle.dns_primary.specs.Keeps.{IsKept}
 use Rattle.dns_primary.specs.Machine.{Machine}
 use Rattle.dns_primary.specs.Runs.{Moment, last_of}
 use Rattle.dns_network.specs.declared.network.Network.{Ghosts}
-use Rattle.dns_network.specs.declared.network.Notes as notes
+use Rattle.dns_network.specs.declared.network.Observer as notes
 use Rattle.dns_network.specs.Delivery.{Served}
 use Rattle.dns_network.specs.Turn.{TurnMoment}
 use Rattle.dns_network.specs.Turns.{AreTurns}

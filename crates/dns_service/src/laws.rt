@@ -4,7 +4,7 @@ ghost use Rattle.dns_service.specs.Carried.{TurnsCarry};
 use crate::socket::Socket;
 use crate::sockets::Sockets;
 use crate::system::{DatagramCalls, ListenerCalls, StreamCalls};
-use dns_network::{Network, Notes, Stream};
+use dns_network::{Network, Observer, Stream};
 use dns_store::ZoneStore;
 use dns_zone::ZoneIndex;
 
@@ -21,8 +21,8 @@ pub(crate) fn carried_law<
     C: DatagramCalls + Drop,
     A: ListenerCalls<T> + Drop,
     T: StreamCalls + Drop,
-    L: Notes,
+    L: Observer,
 >()
     ensures { TurnsCarry I.ZoneIndex D.ZoneStore ⟦<Socket<T> as Stream>⟧
-        ⟦<Sockets<C, A> as Network<Socket<T>>>⟧ L.Notes C.DatagramCalls }
+        ⟦<Sockets<C, A> as Network<Socket<T>>>⟧ L.Observer C.DatagramCalls }
 {}

@@ -13,7 +13,7 @@ ghost use Rattle.dns_service.specs.Verdict.{by_verdict, line_verdict, none_in};
 use crate::update_lines::{add_event, have_no_line};
 use dns_memory::Heap;
 use dns_names::Name;
-use dns_network::{Note, Notes};
+use dns_network::{Note, Observer};
 use dns_policy::print_address;
 use dns_primary::{Effects, Event, Peer};
 use std::io::{self, ErrorKind, Write};
@@ -287,7 +287,7 @@ fn is_silent(counts: Counts, note: Note) -> bool
     }
 }
 
-impl<E: Write> Notes for Log<'_, E> {
+impl<E: Write> Observer for Log<'_, E> {
     ghost takes = { λ old note new. (new.err.ghost_name ≡ old.err.ghost_name)
         × (new.origins.now ≡ old.origins.now)
         × (new.is_quiet ≡ old.is_quiet)

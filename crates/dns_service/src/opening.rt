@@ -1,7 +1,8 @@
 //! The zones of a configuration over their devices: what a primary is given, and why there is none.
-ghost use Rattle.std.specs.Prelude.{◌≡◌, MatchResult};
+ghost use Rattle.std.specs.Prelude.{◌≡◌, map, MatchResult};
 ghost use Rattle.dns_configuration.specs.Known.{origins_of};
 ghost use Rattle.dns_configuration.specs.Calls.{Calls, HasCalled};
+ghost use Rattle.dns_primary.specs.Open.{device_of_pending};
 ghost use Rattle.dns_service.specs.Opening.{AreGiven, IsFaultAt, IsNextGiven, IsNextNotGiven, IsNotGiven};
 ghost use Rattle.dns_service.specs.Opening.{IsNotServed, IsOpenedAs, IsServed, closings};
 
@@ -12,6 +13,7 @@ use dns_names::Name;
 use dns_primary::{NotOpened, Primary};
 use dns_sectors::Sectors;
 use dns_store::{KeptStore, OpenError};
+use dns_versions::PendingZone;
 use dns_zone::ZoneIndex;
 
 /// The device of a zone that is refused: the position of the zone, and why.
@@ -33,6 +35,31 @@ pub(crate) fn close_all<D: Drop, F: Devices<D>>(
     for own in zones {
         if !open.is_empty() {
             devices.close(&own.device, open.remove(0));
+        }
+    }
+}
+
+/// Closes the devices of stores, those of the first zones.
+pub(crate) fn close_stores<D: Sectors + Drop, F: Devices<D>, I: ZoneIndex>(
+    devices: &mut F,
+    zones: &[ZoneSettings],
+    stores: Vec<PendingZone<I, KeptStore<D, I>>, Heap>,
+)
+    ensures { HasCalled (F.calls devices.old) (F.calls devices.new)
+        (closings (map (λ b. device_of_pending b) stores.entry.items) zones.now) }
+{
+    let mut open = stores;
+    for own in zones {
+        if !open.is_empty() {
+            let PendingZone {
+                tip: _,
+                store,
+                number: _,
+                octets: _,
+                snapshot: _,
+                journal: _,
+            } = open.remove(0);
+            devices.close(&own.device, store.into_device());
         }
     }
 }

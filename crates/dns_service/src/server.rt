@@ -1,5 +1,5 @@
 //! A server over devices and sockets.
-ghost use Rattle.std.specs.Prelude.{◌≡◌, ◌⊎◌, ◌<◌, [], IfOk, MatchResult, OnOk, vec_capacity};
+ghost use Rattle.std.specs.Prelude.{◌≡◌, ◌⊎◌, [], IfOk, MatchResult, OnOk};
 ghost use Rattle.std.specs.Result.{result_unwrap_or};
 ghost use Rattle.std.specs.Io.KnownBytes.{Appends};
 ghost use Rattle.dns_service.specs.Log.{IsLogOf, listening_lines, zone_line, zone_lines};
@@ -8,21 +8,20 @@ ghost use Rattle.dns_service.specs.ServedTurns.{HasPaused, HasRun, HasTurned, Is
 ghost use Rattle.dns_configuration.specs.Calls.{Calls};
 ghost use Rattle.dns_primary.specs.Keeps.{IsKept};
 ghost use Rattle.dns_primary.specs.Machine.{Machine};
-ghost use Rattle.dns_primary.specs.Open.{count_of};
 
 use crate::log::{Counts, Log};
-use crate::opening::{Refusal, close_all, open_primary};
+use crate::opening::{Refusal, close_stores, open_primary};
 use crate::sockets::Sockets;
 use dns_configuration::{DONE, FAILED, File, ZoneSettings, origins_of, read_configuration, tell};
 use dns_devices::{Devices, tell_device};
 use dns_memory::Heap;
 use dns_names::Name;
-use dns_network::{Edge, Network, Notes, Stream};
+use dns_network::{Edge, Network, Observer, Stream};
 use dns_primary::Primary;
 use dns_sectors::Sectors;
 use dns_store::{KeptStore, ZoneStore};
 use dns_zone::{Zone, ZoneIndex};
-use std::alloc::{AllocError, Global};
+use std::alloc::Global;
 use std::io::{self, Write};
 use std::net::{Net, SocketAddr};
 use std::time::{Clock, Instant};
@@ -119,7 +118,7 @@ fn pause<R: Clock, S, N: Network<S>>(
 }
 
 /// Makes so many turns, and waits after each one in which nothing was done.
-fn run<R: Clock, I: ZoneIndex, D: ZoneStore, S: Stream + Drop, N: Network<S>, L: Notes>(
+fn run<R: Clock, I: ZoneIndex, D: ZoneStore, S: Stream + Drop, N: Network<S>, L: Observer>(
     heap: Heap,
     rt: &R,
     primary: &mut Primary<I, D>,
@@ -128,7 +127,7 @@ fn run<R: Clock, I: ZoneIndex, D: ZoneStore, S: Stream + Drop, N: Network<S>, L:
     turns: u64,
 ) -> io::Result<()>
     ensures { MatchResult result
-        (λ _. IsServedOn S.Stream N.Network L.Notes turns primary.old network.old notes.old primary.new
+        (λ _. IsServedOn S.Stream N.Network L.Observer turns primary.old network.old notes.old primary.new
         network.new notes.new)
         (λ _. primary.new ≡ primary.old) }
 {
@@ -300,24 +299,16 @@ fn tell_refusal<E: Write>(
     }
 }
 
-/// Takes a primary apart into the devices of its zones, in a list that may have room for them, and closes
-/// these. They are let go only if it has none, and memory for more is refused.
+/// Takes a primary apart into the stores of its zones, and closes their devices. It takes no memory.
 fn close_primary<D: Sectors + Drop, F: Devices<D>, I: ZoneIndex>(
     devices: &mut F,
     zones: &[ZoneSettings],
     primary: Primary<I, KeptStore<D, I>>,
-    room: Vec<D, Heap>,
-) -> Result<(), AllocError>
-    requires { room.items ≡ [] }
-    ensures { Calls (F.calls devices.old) (F.calls devices.new) (λ calls. MatchResult result
-        (λ _. ArePrimaryClosed calls zones.now primary)
-        (λ _. (calls ≡ []) × (vec_capacity room.entry < count_of primary))) }
+)
+    ensures { Calls (F.calls devices.old) (F.calls devices.new)
+        (λ calls. ArePrimaryClosed calls zones.now primary) }
 {
-    let mut back = room;
-    back.reserve_exact(primary.zone_count())?;
-    primary.into_devices(&mut back);
-    close_all(devices, zones, back);
-    Ok(())
+    close_stores(devices, zones, primary.into_stores());
 }
 
 /// Opens the stores of all zones, serves them and closes their devices. Returns the exit status.
@@ -339,7 +330,6 @@ fn serve_all<D: Sectors + Drop, F: Devices<D>, I: ZoneIndex, R: Net + Clock, E: 
         Err(fault) => return tell(err, config.path, fault),
     };
     let origins = origins_of(heap, &configuration.zones)?;
-    let room = Vec::with_capacity(heap, configuration.zones.len())?;
     match open_primary::<D, F, I>(heap, devices, &configuration.zones, &origins) {
         Ok(mut primary) => {
             let service = Service {
@@ -351,7 +341,7 @@ fn serve_all<D: Sectors + Drop, F: Devices<D>, I: ZoneIndex, R: Net + Clock, E: 
                 is_quiet: options.is_quiet,
             };
             let status = serve_as(&mut primary, &service, err);
-            close_primary(devices, &configuration.zones, primary, room)?;
+            close_primary(devices, &configuration.zones, primary);
             Ok(status)
         }
         Err(refusal) => tell_refusal(err, &configuration.zones, refusal, options.explain),
@@ -382,8 +372,7 @@ pub struct ServeOptions {
 /// status: `DONE`, `REFUSED`, or `FAILED` where a device or an address can't be had, a writer failed or
 /// memory was refused. It serves only if each device is intact: its first sector is a root of its zone and of
 /// the sizes of its store, and each sector that is read is its own or zeros. The devices are closed as the
-/// last turn left them, or as they came if one of them is refused, but for how often they were opened; memory
-/// for their list is had before the first is opened.
+/// last turn left them, or as they came if one of them is refused, but for how often they were opened.
 pub fn serve<D: Sectors + Drop, F: Devices<D>, I: ZoneIndex, R: Net + Clock, E: Write>(
     alloc: Global,
     heap: Heap,

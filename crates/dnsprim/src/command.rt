@@ -337,7 +337,7 @@ fn serve_command<'a>(alloc: Global) -> Result<Command<'a>, Error> {
     let quiet = Arg::new(alloc, "quiet")
         .long("quiet")
         .action(ArgAction::SetTrue)
-        .help("Leaves the lines of connections out of the log");
+        .help("Leaves the lines of connections, updates and transfers out of the log");
     Ok(command.arg(turns)?.arg(quiet)?)
 }
 

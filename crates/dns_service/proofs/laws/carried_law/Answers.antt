@@ -13,7 +13,7 @@ watched_same s a b number given (Some watched) is = ap datagrams_of is.0
 
 pub returns : goal.returns
 returns g c = λ turns old new made order.
-    carried_in _ _ g.L.Notes g.C.DatagramCalls datagrams_of turns old new made
+    carried_in _ _ g.L.Observer g.C.DatagramCalls datagrams_of turns old new made
     (record {
       accepts = λ a b got is. is.0;
       watches = λ a b number given got is. watched_same g.T.StreamCalls a b number given got is;

@@ -7,7 +7,7 @@ pub loop-turn-preserved : goal.loop-turn-preserved
 loop-turn-preserved g c =
     let s = g.S.Stream in
     let n = g.N.Network in
-    let l = g.L.Notes in
+    let l = g.L.Observer in
     let noted = c.turn-is_done.new.notes in
     turned s n l c.loop-turn.turn c.poll-now.result (rested_of c.loop-turn.edge) c.turn-is_done.ensures.turn.0 (served_at_start c.args.primary.now c.args.network.now c.args.notes.now)
     (served c.loop-turn.primary c.loop-turn.edge c.loop-turn.network c.loop-turn.notes)

@@ -1,5 +1,4 @@
 use Rattle.std.proofs.Common.{◌≡◌, ℕ, [], ◌++◌, inl, inr, refl, List, ap, subst, ◌∙◌, ◌≤◌, arith, length}
-use Rattle.std.specs.Vec.{vec_capacity}
 use Rattle.std.specs.declared.net.socket_addr.SocketAddr.{SocketAddr}
 use Rattle.dns_names.specs.Name.{Labels}
 use Rattle.dns_configuration.specs.Known.{origins_of}
@@ -14,7 +13,7 @@ use Rattle.dns_service.specs.Log.{IsLogOf, zone_lines}
 use Rattle.dns_service.specs.ServedTurns.{HasTurned, IsLedTo}
 use Rattle.dns_service.specs.Opening.{IsNotServed, IsOpenedAs, IsServed}
 use Rattle.dns_service.specs.Serve.{ServingEnds}
-use Rattle.dns_service.proofs.Served.{at_ok, configuration_refused, device_refused, let_go, served, served_for, served_somehow, serving_failed}
+use Rattle.dns_service.proofs.Served.{at_ok, configuration_refused, device_refused, served, served_for, served_somehow, serving_failed}
 use Rattle.dns_service.proofs.server.serve_all.Goals as goal
 
 pub returns-in-Err : goal.returns-in-Err
@@ -42,7 +41,7 @@ returns-in-Ok-open_primary g c =
     let names : origins ≡ named = c.deref-in-Ok-open_primary.ensures.value ∙ at_ok c.origins_of.result (λ made. made.items ≡ origins_of c.deref.result.now) c.in_ok-origins.origins c.in_ok-origins.was c.origins_of.ensures ∙ ap origins_of c.deref.ensures.value in
     let opening = c.in-Ok-open_primary.ensures.0 in
     let is : IsServed g.D.Sectors opening configuration.zones.items (IsOpenedAs primary) = rw c.deref-2.ensures.value at c.in-Ok-open_primary.ensures.2 in
-    let closed = rw c.deref-in-Ok-open_primary-3.ensures.value at c.in_ok-close_primary-in-Ok-open_primary.ensures in
+    let closed = rw c.deref-in-Ok-open_primary-3.ensures.value at c.close_primary.ensures in
     let ran = c.serve_as-status.ensures.run in
     let keeps : Machine → Type 0 = λ m. IsKept primary m in
     let zones = configuration.zones.items in
@@ -67,30 +66,6 @@ returns-in_err-origins g c =
     let config = c.args.config.now in
     let err = g.E.Write.contents c.args.err.now in
     no_calls _ _ (failed_as (λ (status : ℕ). ServingEnds g.D.Sectors [] config c.args.options err err status) c.from_residual.result c.from_residual.ensures.0 (serving_failed g.D.Sectors [] config c.args.options err err (inl refl)))
-
-pub returns-in_err-room : goal.returns-in_err-room
-returns-in_err-room g c =
-    let config = c.args.config.now in
-    let err = g.E.Write.contents c.args.err.now in
-    no_calls _ _ (failed_as (λ (status : ℕ). ServingEnds g.D.Sectors [] config c.args.options err err status) c.from_residual-in_err-room.result c.from_residual-in_err-room.ensures.0 (serving_failed g.D.Sectors [] config c.args.options err err (inl refl)))
-
-pub returns-in_err-close_primary-in-Ok-open_primary : goal.returns-in_err-close_primary-in-Ok-open_primary
-returns-in_err-close_primary-in-Ok-open_primary g c =
-    let config = c.args.config.now in
-    let configuration = c.in-Ok.configuration in
-    let primary = c.in-Ok-open_primary.primary in
-    let after = c.serve_as-status.new.primary in
-    let err = g.E.Write.contents c.args.err.now in
-    let err_after = g.E.Write.contents c.serve_as-status.new.err in
-    let opening = c.in-Ok-open_primary.ensures.0 in
-    let is : IsServed g.D.Sectors opening configuration.zones.items (IsOpenedAs primary) = rw c.deref-2.ensures.value at c.in-Ok-open_primary.ensures.2 in
-    let gone = c.in_err-close_primary-in-Ok-open_primary.ensures in
-    let there : length configuration.zones.items ≤ vec_capacity c.in_ok-room.room = omega (arith, c.in_ok-room.ensures.capacity, c.len.ensures, configuration.zones.ok) in (
-      _,
-      called_on _ _ _ _ _ c.in-Ok-open_primary.ensures.1 gone.1,
-      failed_as (λ (status : ℕ). ServingEnds g.D.Sectors (opening ++ gone.0) config c.args.options err err_after status) c.from_residual-in_err-close_primary-in-Ok-open_primary.result c.from_residual-in_err-close_primary-in-Ok-open_primary.ensures.0
-          (let_go g.D.Sectors opening gone.0 config configuration c.args.options primary after _ err err_after c.in-Ok.ensures.held is c.serve_as-status.ensures.run gone.2.0 gone.2.1 there),
-    )
 
 pub returns : goal.returns
 returns g c =

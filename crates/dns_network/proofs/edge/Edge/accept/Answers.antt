@@ -14,7 +14,7 @@ returns-in_default-clause-accepts g c =
     let asked : HasAsked g.N.Network old new = record { rest = refl; nothing = inl c.in_default.ensures } in (
       Asks ∷ [],
       record {
-        are = one_moment g.S.Stream g.N.Network g.L.Notes c.args.now Asks old new asked;
+        are = one_moment g.S.Stream g.N.Network g.L.Observer c.args.now Asks old new asked;
         came = λ one. absurd (let clash : false ≡ true = one in cc);
         none = λ none. (refl, c.in_default.ensures);
       },
@@ -24,7 +24,7 @@ pub returns-then-is_full_for-clause-accepts : goal.returns-then-is_full_for-clau
 returns-then-is_full_for-clause-accepts g c =
     let old = served c.args.primary.now c.args.self.now c.args.network.now c.args.notes.now in
     let new = served c.args.primary.now c.args.self.now c.accept.new.self c.note.new.self in
-    let refused : HasRefused g.N.Network g.L.Notes c.in-Some.peer old new = record {
+    let refused : HasRefused g.N.Network g.L.Observer c.in-Some.peer old new = record {
       stream = c.in-Some.stream;
       came = c.in-Some.ensures;
       full = c.is_full_for.ensures.full c.if-is_full_for.true;
@@ -34,7 +34,7 @@ returns-then-is_full_for-clause-accepts g c =
     } in (
       Refuses c.in-Some.peer ∷ [],
       record {
-        are = one_moment g.S.Stream g.N.Network g.L.Notes c.args.now (Refuses c.in-Some.peer) old new refused;
+        are = one_moment g.S.Stream g.N.Network g.L.Observer c.args.now (Refuses c.in-Some.peer) old new refused;
         came = λ one. inr (inr (c.in-Some.peer, refl));
         none = λ none. absurd (let clash : true ≡ false = none in cc);
       },
@@ -47,24 +47,24 @@ returns-clause-accepts g c =
     let new = served c.open_connection.new.primary c.open_connection.new.self c.open_connection.new.network c.open_connection.new.notes in
     elim c.open_connection.ensures.welcomed [
       | inl (effects, taken) ↦ (
-          let connected : HasConnected g.N.Network g.L.Notes c.args.now c.in-Some.peer effects old new =
+          let connected : HasConnected g.N.Network g.L.Observer c.args.now c.in-Some.peer effects old new =
           record { stream = c.in-Some.stream; asked = c.accept.new.self; came = c.in-Some.ensures; allowed = allowed; taken = taken } in (
             Connects c.in-Some.peer effects ∷ [],
             record {
-              are = one_moment g.S.Stream g.N.Network g.L.Notes c.args.now (Connects c.in-Some.peer effects) old new connected;
+              are = one_moment g.S.Stream g.N.Network g.L.Observer c.args.now (Connects c.in-Some.peer effects) old new connected;
               came = λ one. inl (c.in-Some.peer, effects, refl);
               none = λ none. absurd (let clash : true ≡ false = none in cc);
             },
           )
           )
       | inr (opened, effects, number, taken, lacks, closed) ↦ (
-          let connected : HasConnected g.N.Network g.L.Notes c.args.now c.in-Some.peer effects old opened =
+          let connected : HasConnected g.N.Network g.L.Observer c.args.now c.in-Some.peer effects old opened =
           record { stream = c.in-Some.stream; asked = c.accept.new.self; came = c.in-Some.ensures; allowed = allowed; taken = taken } in
-          let closed_for : ClosedFor g.S.Stream g.L.Notes c.args.now number NoPlace opened new =
+          let closed_for : ClosedFor g.S.Stream g.L.Observer c.args.now number NoPlace opened new =
           record { gives = lacks; told = opened; noted = refl; closed = closed } in (
             Connects c.in-Some.peer effects ∷ Closes number NoPlace ∷ [],
             record {
-              are = two_moments g.S.Stream g.N.Network g.L.Notes c.args.now (Connects c.in-Some.peer effects) (Closes number NoPlace) old opened new connected closed_for;
+              are = two_moments g.S.Stream g.N.Network g.L.Observer c.args.now (Connects c.in-Some.peer effects) (Closes number NoPlace) old opened new connected closed_for;
               came = λ one. inr (inl (c.in-Some.peer, effects, number, refl));
               none = λ none. absurd (let clash : true ≡ false = none in cc);
             },

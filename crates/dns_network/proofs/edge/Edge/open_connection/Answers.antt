@@ -16,8 +16,8 @@ returns-in_default-clause-welcomed g c =
       record {
         told = λ m kept. c.step-effects.ensures.step m kept;
         placed = subst (λ (accepted : Option ℕ). IsPlaced g.N.Network c.args.now c.args.stream accepted asked asked here here) (sym c.in_default.is) (refl, refl);
-        noted = noted_then g.L.Notes c.step-effects.result.noted c.step-effects.result.accepted c.args.peer c.args.notes.now c.tell.new.notes c.note.new.self c.tell.ensures
-            (subst (λ (accepted : Option ℕ). AreNoted g.L.Notes (notes_of_opened accepted c.args.peer) c.tell.new.notes c.note.new.self) (sym c.in_default.is)
+        noted = noted_then g.L.Observer c.step-effects.result.noted c.step-effects.result.accepted c.args.peer c.args.notes.now c.tell.new.notes c.note.new.self c.tell.ensures
+            (subst (λ (accepted : Option ℕ). AreNoted g.L.Observer (notes_of_opened accepted c.args.peer) c.tell.new.notes c.note.new.self) (sym c.in_default.is)
             (c.note.new.self, c.note.ensures, refl));
       },
     )
@@ -36,8 +36,8 @@ returns-in_default-watch-clause-welcomed g c =
         told = λ m kept. c.step-effects.ensures.step m kept;
         placed = subst (λ (accepted : Option ℕ). IsPlaced g.N.Network c.args.now c.args.stream accepted asked c.watch.new.self here left) (sym c.in-Some.is)
             (inl (c.in_default-watch.ensures, refl));
-        noted = noted_then g.L.Notes c.step-effects.result.noted c.step-effects.result.accepted c.args.peer c.args.notes.now c.tell.new.notes c.note-2.new.self c.tell.ensures
-            (subst (λ (accepted : Option ℕ). AreNoted g.L.Notes (notes_of_opened accepted c.args.peer) c.tell.new.notes c.note-2.new.self) (sym c.in-Some.is)
+        noted = noted_then g.L.Observer c.step-effects.result.noted c.step-effects.result.accepted c.args.peer c.args.notes.now c.tell.new.notes c.note-2.new.self c.tell.ensures
+            (subst (λ (accepted : Option ℕ). AreNoted g.L.Observer (notes_of_opened accepted c.args.peer) c.tell.new.notes c.note-2.new.self) (sym c.in-Some.is)
             (c.note-2.new.self, c.note-2.ensures, refl));
       },
       none_there c.in-Some.number here,
@@ -63,8 +63,8 @@ returns-in-Err-clause-welcomed g c =
         told = λ m kept. c.step-effects.ensures.step m kept;
         placed = subst (λ (accepted : Option ℕ). IsPlaced g.N.Network c.args.now c.args.stream accepted asked c.watch.new.self here (places_of c.insert.new.self)) (sym c.in-Some.is)
             (inr (c.in-Some-watch.watched, c.in-Some-watch.ensures, inl (c.in-Err.ensures.back.1, c.in-Err.ensures.still)));
-        noted = noted_then g.L.Notes c.step-effects.result.noted c.step-effects.result.accepted c.args.peer c.args.notes.now c.tell.new.notes c.note-2.new.self c.tell.ensures
-            (subst (λ (accepted : Option ℕ). AreNoted g.L.Notes (notes_of_opened accepted c.args.peer) c.tell.new.notes c.note-2.new.self) (sym c.in-Some.is)
+        noted = noted_then g.L.Observer c.step-effects.result.noted c.step-effects.result.accepted c.args.peer c.args.notes.now c.tell.new.notes c.note-2.new.self c.tell.ensures
+            (subst (λ (accepted : Option ℕ). AreNoted g.L.Observer (notes_of_opened accepted c.args.peer) c.tell.new.notes c.note-2.new.self) (sym c.in-Some.is)
             (c.note-2.new.self, c.note-2.ensures, refl));
       },
       none_past c.in-Some.number here (places_of c.insert.new.self) c.in-Err.ensures.still c.in-Err.ensures.back.1,
@@ -102,8 +102,8 @@ returns-clause-welcomed g c =
                 ),
               ),
             ));
-        noted = noted_then g.L.Notes c.step-effects.result.noted c.step-effects.result.accepted c.args.peer c.args.notes.now c.tell.new.notes c.note-2.new.self c.tell.ensures
-            (subst (λ (accepted : Option ℕ). AreNoted g.L.Notes (notes_of_opened accepted c.args.peer) c.tell.new.notes c.note-2.new.self) (sym c.in-Some.is)
+        noted = noted_then g.L.Observer c.step-effects.result.noted c.step-effects.result.accepted c.args.peer c.args.notes.now c.tell.new.notes c.note-2.new.self c.tell.ensures
+            (subst (λ (accepted : Option ℕ). AreNoted g.L.Observer (notes_of_opened accepted c.args.peer) c.tell.new.notes c.note-2.new.self) (sym c.in-Some.is)
             (c.note-2.new.self, c.note-2.ensures, refl));
       },
     )

@@ -14,7 +14,7 @@ returns-clause-pumps g c = λ now.
       c.happen-effects.result,
       goings,
       c.is_some-is_sent.ensures,
-      happened g.S.Stream g.N.Network g.L.Notes now (Pump c.args.number) c.happen-effects.result goings old old told new refl c.happen-effects.ensures.takes c.happen-effects.ensures.observed refl
+      happened g.S.Stream g.N.Network g.L.Observer now (Pump c.args.number) c.happen-effects.result goings old old told new refl c.happen-effects.ensures.takes c.happen-effects.ensures.observed refl
           c.deliver.ensures.happened.1,
     )
 
@@ -23,4 +23,4 @@ returns-clause-pumped g c = λ m kept.
     let told = served c.happen-effects.new.primary c.args.self.now c.args.network.now c.happen-effects.new.notes in
     let new = served c.deliver.new.primary c.deliver.new.self c.deliver.new.network c.deliver.new.notes in
     is_pumped c.args.number c.is_some-is_sent.result c.happen-effects.result.message (connections_of c.args.self.now) (connections_of c.deliver.new.self) c.is_some-is_sent.ensures
-    (next_queued g.N.Network g.L.Notes m c.args.number c.happen-effects.result c.deliver.ensures.happened.0 c.args.primary.now c.happen-effects.new.primary told new c.happen-effects.ensures.takes kept c.deliver.ensures.happened.1)
+    (next_queued g.N.Network g.L.Observer m c.args.number c.happen-effects.result c.deliver.ensures.happened.0 c.args.primary.now c.happen-effects.new.primary told new c.happen-effects.ensures.takes kept c.deliver.ensures.happened.1)

@@ -22,7 +22,7 @@ returns-in_default-clause-reads g c =
     let here = connections_of c.args.self.now in
     let mid = places_of c.read.new.self in
     let new = connections_of c.close.new.self in
-    let closed = closes g.S.Stream g.N.Network g.L.Notes now number NoMemory c.args.primary.now c.close.new.primary c.args.network.now c.args.notes.now c.note.new.self c.close.new.notes here new
+    let closed = closes g.S.Stream g.N.Network g.L.Observer now number NoMemory c.args.primary.now c.close.new.primary c.args.network.now c.args.notes.now c.note.new.self c.close.new.notes here new
     (loses g.S.Stream now number here mid c.in_default.ensures.lost) (record { rest = refl; noted = c.note.ensures }) c.close.ensures.told
     (closed_then g.S.Stream (HasLost g.S.Stream) number here mid new c.in_default.ensures.lost c.close.ensures.gone) c.close.ensures.noted in (
       Closes number NoMemory ∷ [],
@@ -42,13 +42,13 @@ returns-in-Ended-clause-reads g c =
     let there = places_of c.read.new.self in
     let moved = read_ended g.S.Stream now number c.in-Ok.moved here there c.in-Ended.is (c.in-Ok.ensures.moved now) in
     let new = served c.close-in-Ended.new.primary c.close-in-Ended.new.self network c.close-in-Ended.new.notes in
-    let closed = closes g.S.Stream g.N.Network g.L.Notes now number HasEnded c.args.primary.now c.close-in-Ended.new.primary network c.args.notes.now c.args.notes.now c.close-in-Ended.new.notes there (connections_of c.close-in-Ended.new.self)
+    let closed = closes g.S.Stream g.N.Network g.L.Observer now number HasEnded c.args.primary.now c.close-in-Ended.new.primary network c.args.notes.now c.args.notes.now c.close-in-Ended.new.notes there (connections_of c.close-in-Ended.new.self)
     (ends g.S.Stream now number c.in-Ok.moved here there c.in-Ended.is moved) refl c.close-in-Ended.ensures.told c.close-in-Ended.ensures.gone c.close-in-Ended.ensures.noted in (
       Moves number c.in-Ok.moved ∷ Closes number HasEnded ∷ [],
       record {
         are = (
           standing c.args.primary.now network c.args.notes.now there,
-          moves g.S.Stream g.N.Network g.L.Notes now number c.in-Ok.moved c.args.primary.now network c.args.notes.now here there
+          moves g.S.Stream g.N.Network g.L.Observer now number c.in-Ok.moved c.args.primary.now network c.args.notes.now here there
               (moved_ended g.S.Stream now number c.in-Ok.moved here there c.in-Ended.is moved),
           (new, closed, refl),
         );
@@ -71,7 +71,7 @@ returns-in-Some-clause-reads g c =
     let opened = open_become (HasHandedOver now c.in-Some.message.items) number there (places_of c.next_message.new.self) handed in
     let octets = c.deref.result.now in
     let goings = c.deliver.ensures.happened.0 in
-    let handles = happened g.S.Stream g.N.Network g.L.Notes now (Arrives number octets) c.happen-effects.result goings mid given told new (
+    let handles = happened g.S.Stream g.N.Network g.L.Observer now (Arrives number octets) c.happen-effects.result goings mid given told new (
       handed.0,
       handed.1,
       handed.2,
@@ -79,7 +79,7 @@ returns-in-Some-clause-reads g c =
       ap (standing c.args.primary.now c.args.network.now c.args.notes.now) handed.4,
     )
     c.happen-effects.ensures.takes c.happen-effects.ensures.observed refl c.deliver.ensures.happened.1 in
-    let (moments, reads, idle) = read_then g.S.Stream g.N.Network g.L.Notes now number c.in-Ok.moved (Happens (Arrives number octets) c.happen-effects.result goings ∷ [])
+    let (moments, reads, idle) = read_then g.S.Stream g.N.Network g.L.Observer now number c.in-Ok.moved (Happens (Arrives number octets) c.happen-effects.result goings ∷ [])
     c.args.primary.now c.args.network.now c.args.notes.now here there new c.in_default-moved.not-Ended (c.in-Ok.ensures.moved now) (inl opened) (new, handles, refl)
     (inl (octets, c.happen-effects.result, goings, refl)) in (
       moments,
@@ -101,9 +101,9 @@ returns-then-is_silent-clause-reads g c =
     (c.is_silent.ensures.0 c.if-is_silent.true) in
     let opened = open_with (IsSilent now) (slice_get there number) silent in
     let ended = served c.close-then-is_silent.new.primary c.close-then-is_silent.new.self network c.close-then-is_silent.new.notes in
-    let closed = closes g.S.Stream g.N.Network g.L.Notes now number Silent c.args.primary.now c.close-then-is_silent.new.primary network c.args.notes.now c.args.notes.now c.close-then-is_silent.new.notes there new
+    let closed = closes g.S.Stream g.N.Network g.L.Observer now number Silent c.args.primary.now c.close-then-is_silent.new.primary network c.args.notes.now c.args.notes.now c.close-then-is_silent.new.notes there new
     silent refl c.close-then-is_silent.ensures.told gone c.close-then-is_silent.ensures.noted in
-    let (moments, reads, idle) = read_then g.S.Stream g.N.Network g.L.Notes now number c.in-Ok.moved (Closes number Silent ∷ []) c.args.primary.now network c.args.notes.now
+    let (moments, reads, idle) = read_then g.S.Stream g.N.Network g.L.Observer now number c.in-Ok.moved (Closes number Silent ∷ []) c.args.primary.now network c.args.notes.now
     here there ended c.in_default-moved.not-Ended (c.in-Ok.ensures.moved now) (inl opened) (ended, closed, refl) (inr (inr refl)) in (
       moments,
       reads,
@@ -126,7 +126,7 @@ returns-clause-reads g c =
     let (same, none) = c.in_default-next_message.ensures in
     let held = subst (λ (cs : List (Option (Connection g.row.S.Denot))). IsGoneOr (λ e. held_of e ≡ []) (slice_get cs number)) (sym same)
     (none_held (slice_get there number) none) in
-    let (moments, reads, idle) = read_then g.S.Stream g.N.Network g.L.Notes now number c.in-Ok.moved [] c.args.primary.now c.args.network.now c.args.notes.now
+    let (moments, reads, idle) = read_then g.S.Stream g.N.Network g.L.Observer now number c.in-Ok.moved [] c.args.primary.now c.args.network.now c.args.notes.now
     here there (standing_as new) c.in_default-moved.not-Ended (c.in-Ok.ensures.moved now) (inr refl) (ap standing_as same) (inr (inl (refl, held))) in (
       moments,
       reads,
@@ -145,7 +145,7 @@ returns-in-Some-clause-silent g c = λ silent.
     let told = standing c.happen-effects.new.primary c.args.network.now c.happen-effects.new.notes (places_of c.next_message.new.self) in
     let new = served c.deliver.new.primary c.deliver.new.self c.deliver.new.network c.deliver.new.notes in
     let handed = handed_now now c.args.number c.in-Some.message.items (places_of c.read.new.self) (places_of c.next_message.new.self) c.in-Some.ensures in
-    effects_stay g.N.Network g.L.Notes (IsInUse now) c.args.number (in_use_stays now) c.happen-effects.result c.deliver.ensures.happened.0 told new c.deliver.ensures.happened.1 handed
+    effects_stay g.N.Network g.L.Observer (IsInUse now) c.args.number (in_use_stays now) c.happen-effects.result c.deliver.ensures.happened.0 told new c.deliver.ensures.happened.1 handed
 
 pub returns-then-is_silent-clause-silent : goal.returns-then-is_silent-clause-silent
 returns-then-is_silent-clause-silent g c = λ silent.

@@ -27,7 +27,7 @@ returns-clause-receives g c = λ now.
     let octets = take c.in-Some.count c.deref.result.now in
     let event = Datagram c.in-Some.peer octets in
     let goings = c.deliver.ensures.happened.0 in
-    let answered = happened g.S.Stream g.N.Network g.L.Notes now event c.happen-effects.result goings old given told new (
+    let answered = happened g.S.Stream g.N.Network g.L.Observer now event c.happen-effects.result goings old given told new (
       refl,
       subst (λ (buffer : List ℕ). g.N.Network.receives c.args.network.now (Some (take c.in-Some.count buffer, c.in-Some.peer)) c.receive.new.self)
           (sym (c.deref.ensures.value ∙ with_items_is c.args.self.now.buffer c.receive.new.into same)) c.in-Some.ensures.came,

@@ -10,7 +10,7 @@ returns-then-reply-gt-LONGEST-clause-sent g c =
     let old = served c.args.primary.now c.args.self.now c.args.network.now c.args.notes.now in
     let new = served c.close.new.primary c.close.new.self c.args.network.now c.close.new.notes in
     let told = c.close.ensures.told in
-    subst (λ (t : To). (cut : Bool) × IsSent g.N.Network g.L.Notes t c.args.reply.now cut old new) (sym c.in-Connection.is) (
+    subst (λ (t : To). (cut : Bool) × IsSent g.N.Network g.L.Observer t c.args.reply.now cut old new) (sym c.in-Connection.is) (
       true,
       record {
         told = old;
@@ -27,7 +27,7 @@ returns-in-Err-clause-sent g c =
     let told = c.close-in-Err.ensures.told in
     let number = c.in-Connection.number in
     let gone = closed_still number (connections_of c.args.self.now) (places_of c.push.new.self) (connections_of c.close-in-Err.new.self) c.in-Err.ensures.refused c.close-in-Err.ensures.gone in
-    subst (λ (t : To). (cut : Bool) × IsSent g.N.Network g.L.Notes t c.args.reply.now cut old new) (sym c.in-Connection.is) (
+    subst (λ (t : To). (cut : Bool) × IsSent g.N.Network g.L.Observer t c.args.reply.now cut old new) (sym c.in-Connection.is) (
       true,
       record {
         told = noted;

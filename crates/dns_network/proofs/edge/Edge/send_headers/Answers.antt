@@ -13,7 +13,7 @@ loop-header-init g c = (([], refl, refl), λ second rested. rested)
 pub loop-header-preserved : goal.loop-header-preserved
 loop-header-preserved g c =
     let none : HeaderTo = record { to = Address (record { address = V4 (record { octets = [] }); port = 0; local = 0 }); octets = [] } in
-    let sent = next_sent g.N.Network g.L.Notes (λ h. header_out h) c.args.headers.now c.loop-header.header-index none
+    let sent = next_sent g.N.Network g.L.Observer (λ h. header_out h) c.args.headers.now c.loop-header.header-index none
     (served c.args.primary.now c.args.self.now c.args.network.now c.args.notes.now)
     (served c.loop-header.primary c.loop-header.self c.loop-header.network c.loop-header.notes)
     (served c.send.new.primary c.send.new.self c.send.new.network c.send.new.notes)

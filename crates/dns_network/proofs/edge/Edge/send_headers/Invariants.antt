@@ -5,6 +5,6 @@ use Rattle.dns_network.proofs.edge.Edge.send_headers.Given as goal
 
 abbrev pub invariant-loop-header : goal.invariant-loop-header
 invariant-loop-header g l =
-    AreSent g.N.Network g.L.Notes (map (λ h. header_out h) (take l.header-index l.headers))
+    AreSent g.N.Network g.L.Observer (map (λ h. header_out h) (take l.header-index l.headers))
     (served l.initial.primary l.initial.self l.initial.network l.initial.notes) (served l.primary l.self l.network l.notes)
     × RestsAsBefore l.initial.self l.self

@@ -10,6 +10,6 @@ pub returns-in-Some-clause-sent : goal.returns-in-Some-clause-sent
 returns-in-Some-clause-sent g c =
     let old = served c.args.primary.now c.args.self.now c.args.network.now c.args.notes.now in
     let new = served c.send.new.primary c.send.new.self c.send.new.network c.send.new.notes in
-    subst (λ (reply : Option Reply). AreSent g.N.Network g.L.Notes (reply_out reply) old new) (sym c.in-Some.is)
-    (one_sent g.N.Network g.L.Notes c.in-Some.reply.to (octets_in c.in-Some.reply.octets) old new
-    (subst (λ (octets : List ℕ). (cut : Bool) × IsSent g.N.Network g.L.Notes c.in-Some.reply.to octets cut old new) c.as_slice-octets.ensures c.send.ensures.sent))
+    subst (λ (reply : Option Reply). AreSent g.N.Network g.L.Observer (reply_out reply) old new) (sym c.in-Some.is)
+    (one_sent g.N.Network g.L.Observer c.in-Some.reply.to (octets_in c.in-Some.reply.octets) old new
+    (subst (λ (octets : List ℕ). (cut : Bool) × IsSent g.N.Network g.L.Observer c.in-Some.reply.to octets cut old new) c.as_slice-octets.ensures c.send.ensures.sent))

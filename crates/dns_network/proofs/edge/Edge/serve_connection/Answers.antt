@@ -37,13 +37,13 @@ returns-in-Ended-clause-part g c =
     let here = connections_of c.args.self.now in
     let there = places_of c.write-moved.new.self in
     let left : has_left_at (slice_get here number) ≡ true = sym c.has_left.ensures ∙ c.if-has_left.true in
-    let closed = closes g.S.Stream g.N.Network g.L.Notes now number HasEnded c.args.primary.now c.close.new.primary network c.args.notes.now c.args.notes.now c.close.new.notes there (connections_of c.close.new.self)
+    let closed = closes g.S.Stream g.N.Network g.L.Observer now number HasEnded c.args.primary.now c.close.new.primary network c.args.notes.now c.args.notes.now c.close.new.notes there (connections_of c.close.new.self)
     (ends g.S.Stream now number c.write-moved.result here there c.in-Ended.is c.write-moved.ensures) refl c.close.ensures.told c.close.ensures.gone c.close.ensures.noted in (
       Moves number c.write-moved.result ∷ Closes number HasEnded ∷ [],
       record {
         are = (
           standing c.args.primary.now network c.args.notes.now there,
-          moves g.S.Stream g.N.Network g.L.Notes now number c.write-moved.result c.args.primary.now network c.args.notes.now here there
+          moves g.S.Stream g.N.Network g.L.Observer now number c.write-moved.result c.args.primary.now network c.args.notes.now here there
               (moved_ended g.S.Stream now number c.write-moved.result here there c.in-Ended.is c.write-moved.ensures),
           (served c.close.new.primary c.close.new.self network c.close.new.notes, closed, refl),
         );
@@ -63,13 +63,13 @@ returns-then-is_stalled-clause-part g c =
     let there = places_of c.write-moved.new.self in
     let left : has_left_at (slice_get here number) ≡ true = sym c.has_left.ensures ∙ c.if-has_left.true in
     let opened = left_open (slice_get here number) left in
-    let closed = closes g.S.Stream g.N.Network g.L.Notes now number Stalled c.args.primary.now c.close-then-is_stalled.new.primary network c.args.notes.now c.args.notes.now c.close-then-is_stalled.new.notes there
+    let closed = closes g.S.Stream g.N.Network g.L.Observer now number Stalled c.args.primary.now c.close-then-is_stalled.new.primary network c.args.notes.now c.args.notes.now c.close-then-is_stalled.new.notes there
     (connections_of c.close-then-is_stalled.new.self) (c.is_stalled.ensures.0 c.if-is_stalled.true) refl c.close-then-is_stalled.ensures.told c.close-then-is_stalled.ensures.gone c.close-then-is_stalled.ensures.noted in (
       Moves number c.write-moved.result ∷ Closes number Stalled ∷ [],
       record {
         are = (
           standing c.args.primary.now network c.args.notes.now there,
-          moves g.S.Stream g.N.Network g.L.Notes now number c.write-moved.result c.args.primary.now network c.args.notes.now here there
+          moves g.S.Stream g.N.Network g.L.Observer now number c.write-moved.result c.args.primary.now network c.args.notes.now here there
               (moved_open g.S.Stream now number c.write-moved.result here there opened c.write-moved.ensures),
           (served c.close-then-is_stalled.new.primary c.close-then-is_stalled.new.self network c.close-then-is_stalled.new.notes, closed, refl),
         );
@@ -96,7 +96,7 @@ returns-then-has_left-clause-part g c =
       record {
         are = (
           standing c.args.primary.now c.args.network.now c.args.notes.now there,
-          moves g.S.Stream g.N.Network g.L.Notes c.args.now number c.write-moved.result c.args.primary.now c.args.network.now c.args.notes.now here there
+          moves g.S.Stream g.N.Network g.L.Observer c.args.now number c.write-moved.result c.args.primary.now c.args.network.now c.args.notes.now here there
               (moved_open g.S.Stream c.args.now number c.write-moved.result here there opened c.write-moved.ensures),
           refl,
         );

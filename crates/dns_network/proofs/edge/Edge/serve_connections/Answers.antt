@@ -12,11 +12,11 @@ returns-then-is_still-clause-serves g c =
 
 pub loop-number-init : goal.loop-number-init
 loop-number-init g c =
-    none_visited g.S.Stream g.N.Network g.L.Notes c.args.now (served c.args.primary.now c.args.self.now c.args.network.now c.args.notes.now)
+    none_visited g.S.Stream g.N.Network g.L.Observer c.args.now (served c.args.primary.now c.args.self.now c.args.network.now c.args.notes.now)
 
 pub loop-number-preserved : goal.loop-number-preserved
 loop-number-preserved g c =
-    one_visited g.S.Stream g.N.Network g.L.Notes c.args.now c.loop-number.number c.loop-number.is_done c.serve_connection.result c.if-serve_connection.is_done (served c.args.primary.now c.args.self.now c.args.network.now c.args.notes.now)
+    one_visited g.S.Stream g.N.Network g.L.Observer c.args.now c.loop-number.number c.loop-number.is_done c.serve_connection.result c.if-serve_connection.is_done (served c.args.primary.now c.args.self.now c.args.network.now c.args.notes.now)
     (served c.loop-number.primary c.loop-number.self c.loop-number.network c.loop-number.notes)
     (served c.serve_connection.new.primary c.serve_connection.new.self c.serve_connection.new.network c.serve_connection.new.notes)
     (λ none. elim c.if-serve_connection.branch [
@@ -32,13 +32,13 @@ loop-number-preserved g c =
 pub returns-clause-unused : goal.returns-clause-unused
 returns-clause-unused g c = λ not m kept.
     let all : length (connections_of c.args.self.now) ≤ c.loop-number.number = omega (arith, c.loop-number-test.false, c.loop-number.auto.number-end, c.place_count-number-end.ensures) in
-    all_unused g.S.Stream g.N.Network g.L.Notes c.args.now c.loop-number.number c.loop-number.is_done (served c.args.primary.now c.args.self.now c.args.network.now c.args.notes.now)
+    all_unused g.S.Stream g.N.Network g.L.Observer c.args.now c.loop-number.number c.loop-number.is_done (served c.args.primary.now c.args.self.now c.args.network.now c.args.notes.now)
     (served c.loop-number.primary c.loop-number.self c.loop-number.network c.loop-number.notes) all c.loop-number.invariant m kept
 
 pub returns-clause-stalled : goal.returns-clause-stalled
 returns-clause-stalled g c = λ not.
     let all : length (connections_of c.args.self.now) ≤ c.loop-number.number = omega (arith, c.loop-number-test.false, c.loop-number.auto.number-end, c.place_count-number-end.ensures) in
-    all_stalled g.S.Stream g.N.Network g.L.Notes c.args.now c.loop-number.number c.loop-number.is_done (served c.args.primary.now c.args.self.now c.args.network.now c.args.notes.now)
+    all_stalled g.S.Stream g.N.Network g.L.Observer c.args.now c.loop-number.number c.loop-number.is_done (served c.args.primary.now c.args.self.now c.args.network.now c.args.notes.now)
     (served c.loop-number.primary c.loop-number.self c.loop-number.network c.loop-number.notes) all c.loop-number.invariant
 
 pub returns-clause-serves : goal.returns-clause-serves
@@ -48,4 +48,4 @@ returns-clause-serves g c =
     let (moments, each, idle) = c.loop-number.invariant.parts in
     let all : c.loop-number.number ≡ length (connections_of c.args.self.now) =
     omega (arith, c.loop-number-test.false, c.loop-number.auto.number-end, c.place_count-number-end.ensures) in
-    (moments, inl (subst (λ (k : ℕ). EachHasItsPart g.S.Stream g.N.Network g.L.Notes c.args.now k moments old new) all each), idle)
+    (moments, inl (subst (λ (k : ℕ). EachHasItsPart g.S.Stream g.N.Network g.L.Observer c.args.now k moments old new) all each), idle)

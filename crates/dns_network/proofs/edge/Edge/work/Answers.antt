@@ -22,14 +22,14 @@ returns-else-has_waiting-clause-done g c =
     let rests = λ (is : after ≡ Some now). c.accept-accepted.ensures.rested now (c.receive-received.ensures.rested now is) in
     let moments = accepting ++ receiving ++ serving in (
       moments ++ [],
-      not_flushed g.S.Stream g.N.Network g.L.Notes now rested moments old done
-          (parts_moments g.S.Stream g.N.Network g.L.Notes now rested after accepting receiving serving c.accept-accepted.result c.receive-received.result old accepted received done accepts receives serves)
-          (parts_are g.S.Stream g.N.Network g.L.Notes now rested after accepting receiving serving c.accept-accepted.result c.receive-received.result old accepted received done accepts receives serves rests)
+      not_flushed g.S.Stream g.N.Network g.L.Observer now rested moments old done
+          (parts_moments g.S.Stream g.N.Network g.L.Observer now rested after accepting receiving serving c.accept-accepted.result c.receive-received.result old accepted received done accepts receives serves)
+          (parts_are g.S.Stream g.N.Network g.L.Observer now rested after accepting receiving serving c.accept-accepted.result c.receive-received.result old accepted received done accepts receives serves rests)
           (none_waits c.serve_connections-visited.new.primary c.has_waiting.result c.has_waiting.ensures c.if-has_waiting.false),
       λ none.
           let (not_accepted, not_received, not_visited) = none_of_three c.accept-accepted.result c.receive-received.result c.serve_connections-visited.result none in
           idle_on moments []
-          (parts_idle g.S.Stream g.N.Network g.L.Notes now rested after accepting receiving serving c.accept-accepted.result c.receive-received.result old accepted received done accepts receives serves not_accepted not_received (idle not_visited))
+          (parts_idle g.S.Stream g.N.Network g.L.Observer now rested after accepting receiving serving c.accept-accepted.result c.receive-received.result old accepted received done accepts receives serves not_accepted not_received (idle not_visited))
           tt,
     )
 
@@ -56,11 +56,11 @@ returns-then-has_waiting-clause-done g c =
     let goings = c.deliver.ensures.happened.0 in
     let moments = accepting ++ receiving ++ serving in (
       moments ++ Asks ∷ Happens Flush c.happen-effects.result goings ∷ Asks ∷ [],
-      flush_after g.S.Stream g.N.Network g.L.Notes now rested moments old done looked flushed new c.happen-effects.result goings
-          (parts_moments g.S.Stream g.N.Network g.L.Notes now rested after accepting receiving serving c.accept-accepted.result c.receive-received.result old accepted received done accepts receives serves)
-          (parts_are g.S.Stream g.N.Network g.L.Notes now rested after accepting receiving serving c.accept-accepted.result c.receive-received.result old accepted received done accepts receives serves rests)
+      flush_after g.S.Stream g.N.Network g.L.Observer now rested moments old done looked flushed new c.happen-effects.result goings
+          (parts_moments g.S.Stream g.N.Network g.L.Observer now rested after accepting receiving serving c.accept-accepted.result c.receive-received.result old accepted received done accepts receives serves)
+          (parts_are g.S.Stream g.N.Network g.L.Observer now rested after accepting receiving serving c.accept-accepted.result c.receive-received.result old accepted received done accepts receives serves rests)
           (record { rest = refl; nothing = inr (inr c.look.ensures) })
-          (happened g.S.Stream g.N.Network g.L.Notes now Flush c.happen-effects.result goings looked looked told flushed refl c.happen-effects.ensures.takes c.happen-effects.ensures.observed refl c.deliver.ensures.happened.1)
+          (happened g.S.Stream g.N.Network g.L.Observer now Flush c.happen-effects.result goings looked looked told flushed refl c.happen-effects.ensures.takes c.happen-effects.ensures.observed refl c.deliver.ensures.happened.1)
           (record { rest = refl; nothing = inr (inr c.look-then-has_waiting.ensures) }),
       λ none. absurd (let clash : true ≡ false = none in cc),
     )
@@ -79,10 +79,10 @@ returns-else-has_waiting-clause-unused g c = λ not m kept.
     let rested = rested_of c.args.self.now in
     let after = rested_of c.receive-received.new.self in
     let rests = λ (is : after ≡ Some now). c.accept-accepted.ensures.rested now (c.receive-received.ensures.rested now is) in
-    let first : MomentsLead g.S.Stream g.N.Network g.L.Notes now old received = (accepting ++ receiving, moments_on g.S.Stream g.N.Network g.L.Notes now accepting receiving old accepted received accepts.are receives.are) in
-    let leads = served_leads g.S.Stream g.N.Network g.L.Notes now after serving received done serves in
+    let first : MomentsLead g.S.Stream g.N.Network g.L.Observer now old received = (accepting ++ receiving, moments_on g.S.Stream g.N.Network g.L.Observer now accepting receiving old accepted received accepts.are receives.are) in
+    let leads = served_leads g.S.Stream g.N.Network g.L.Observer now after serving received done serves in
     let visits = λ (is : after ≡ Some now). not (rests is) in
-    unused_between g.S.Stream g.N.Network g.L.Notes now old received done first leads (λ e kept'. c.serve_connections-visited.ensures.unused visits e kept') m kept
+    unused_between g.S.Stream g.N.Network g.L.Observer now old received done first leads (λ e kept'. c.serve_connections-visited.ensures.unused visits e kept') m kept
 
 pub returns-else-has_waiting-clause-stalled : goal.returns-else-has_waiting-clause-stalled
 returns-else-has_waiting-clause-stalled g c = λ not.
@@ -97,10 +97,10 @@ returns-else-has_waiting-clause-stalled g c = λ not.
     let rested = rested_of c.args.self.now in
     let after = rested_of c.receive-received.new.self in
     let rests = λ (is : after ≡ Some now). c.accept-accepted.ensures.rested now (c.receive-received.ensures.rested now is) in
-    let first : MomentsLead g.S.Stream g.N.Network g.L.Notes now old received = (accepting ++ receiving, moments_on g.S.Stream g.N.Network g.L.Notes now accepting receiving old accepted received accepts.are receives.are) in
-    let leads = served_leads g.S.Stream g.N.Network g.L.Notes now after serving received done serves in
+    let first : MomentsLead g.S.Stream g.N.Network g.L.Observer now old received = (accepting ++ receiving, moments_on g.S.Stream g.N.Network g.L.Observer now accepting receiving old accepted received accepts.are receives.are) in
+    let leads = served_leads g.S.Stream g.N.Network g.L.Observer now after serving received done serves in
     let visits = λ (is : after ≡ Some now). not (rests is) in
-    stalled_between g.S.Stream g.N.Network g.L.Notes now old received done first leads (c.serve_connections-visited.ensures.stalled visits)
+    stalled_between g.S.Stream g.N.Network g.L.Observer now old received done first leads (c.serve_connections-visited.ensures.stalled visits)
 
 pub returns-then-has_waiting-clause-unused : goal.returns-then-has_waiting-clause-unused
 returns-then-has_waiting-clause-unused g c = λ not m kept.
@@ -115,14 +115,14 @@ returns-then-has_waiting-clause-unused g c = λ not m kept.
     let rested = rested_of c.args.self.now in
     let after = rested_of c.receive-received.new.self in
     let rests = λ (is : after ≡ Some now). c.accept-accepted.ensures.rested now (c.receive-received.ensures.rested now is) in
-    let first : MomentsLead g.S.Stream g.N.Network g.L.Notes now old received = (accepting ++ receiving, moments_on g.S.Stream g.N.Network g.L.Notes now accepting receiving old accepted received accepts.are receives.are) in
-    let leads = served_leads g.S.Stream g.N.Network g.L.Notes now after serving received done serves in
+    let first : MomentsLead g.S.Stream g.N.Network g.L.Observer now old received = (accepting ++ receiving, moments_on g.S.Stream g.N.Network g.L.Observer now accepting receiving old accepted received accepts.are receives.are) in
+    let leads = served_leads g.S.Stream g.N.Network g.L.Observer now after serving received done serves in
     let visits = λ (is : after ≡ Some now). not (rests is) in
     let looked = served c.serve_connections-visited.new.primary c.serve_connections-visited.new.self c.look.new.self c.serve_connections-visited.new.notes in
     let told = served c.happen-effects.new.primary c.serve_connections-visited.new.self c.look.new.self c.happen-effects.new.notes in
     let flushed = served c.deliver.new.primary c.deliver.new.self c.deliver.new.network c.deliver.new.notes in
-    let flush = happens g.S.Stream g.N.Network g.L.Notes now Flush c.happen-effects.result looked looked told flushed refl c.happen-effects.ensures.takes c.happen-effects.ensures.observed refl c.deliver.ensures.happened in
-    unused_after g.S.Stream g.N.Network g.L.Notes now old.connections looked flushed (unused_between g.S.Stream g.N.Network g.L.Notes now old received done first leads (λ e kept'. c.serve_connections-visited.ensures.unused visits e kept') m kept) flush
+    let flush = happens g.S.Stream g.N.Network g.L.Observer now Flush c.happen-effects.result looked looked told flushed refl c.happen-effects.ensures.takes c.happen-effects.ensures.observed refl c.deliver.ensures.happened in
+    unused_after g.S.Stream g.N.Network g.L.Observer now old.connections looked flushed (unused_between g.S.Stream g.N.Network g.L.Observer now old received done first leads (λ e kept'. c.serve_connections-visited.ensures.unused visits e kept') m kept) flush
 
 pub returns-then-has_waiting-clause-stalled : goal.returns-then-has_waiting-clause-stalled
 returns-then-has_waiting-clause-stalled g c = λ not.
@@ -137,14 +137,14 @@ returns-then-has_waiting-clause-stalled g c = λ not.
     let rested = rested_of c.args.self.now in
     let after = rested_of c.receive-received.new.self in
     let rests = λ (is : after ≡ Some now). c.accept-accepted.ensures.rested now (c.receive-received.ensures.rested now is) in
-    let first : MomentsLead g.S.Stream g.N.Network g.L.Notes now old received = (accepting ++ receiving, moments_on g.S.Stream g.N.Network g.L.Notes now accepting receiving old accepted received accepts.are receives.are) in
-    let leads = served_leads g.S.Stream g.N.Network g.L.Notes now after serving received done serves in
+    let first : MomentsLead g.S.Stream g.N.Network g.L.Observer now old received = (accepting ++ receiving, moments_on g.S.Stream g.N.Network g.L.Observer now accepting receiving old accepted received accepts.are receives.are) in
+    let leads = served_leads g.S.Stream g.N.Network g.L.Observer now after serving received done serves in
     let visits = λ (is : after ≡ Some now). not (rests is) in
     let looked = served c.serve_connections-visited.new.primary c.serve_connections-visited.new.self c.look.new.self c.serve_connections-visited.new.notes in
     let told = served c.happen-effects.new.primary c.serve_connections-visited.new.self c.look.new.self c.happen-effects.new.notes in
     let flushed = served c.deliver.new.primary c.deliver.new.self c.deliver.new.network c.deliver.new.notes in
-    let flush = happens g.S.Stream g.N.Network g.L.Notes now Flush c.happen-effects.result looked looked told flushed refl c.happen-effects.ensures.takes c.happen-effects.ensures.observed refl c.deliver.ensures.happened in
-    stalled_after g.S.Stream g.N.Network g.L.Notes now old.connections looked flushed (stalled_between g.S.Stream g.N.Network g.L.Notes now old received done first leads (c.serve_connections-visited.ensures.stalled visits)) flush
+    let flush = happens g.S.Stream g.N.Network g.L.Observer now Flush c.happen-effects.result looked looked told flushed refl c.happen-effects.ensures.takes c.happen-effects.ensures.observed refl c.deliver.ensures.happened in
+    stalled_after g.S.Stream g.N.Network g.L.Observer now old.connections looked flushed (stalled_between g.S.Stream g.N.Network g.L.Observer now old received done first leads (c.serve_connections-visited.ensures.stalled visits)) flush
 
 pub returns-then-has_waiting-clause-rested : goal.returns-then-has_waiting-clause-rested
 returns-then-has_waiting-clause-rested g c = λ second rested. c.serve_connections-visited.ensures.rested second (c.deliver.ensures.rested second rested)

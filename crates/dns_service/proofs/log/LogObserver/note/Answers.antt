@@ -2,7 +2,7 @@ use Rattle.std.proofs.Common.{Option, List, ℕ, sym, subst}
 use Rattle.std.specs.Io.KnownBytes.{Appends, append_known}
 use Rattle.dns_service.specs.Log.{said_of}
 use Rattle.dns_service.proofs.Said.{said_more}
-use Rattle.dns_service.proofs.log.LogNotes.note.Goals as goal
+use Rattle.dns_service.proofs.log.LogObserver.note.Goals as goal
 
 pub returns : goal.returns
 returns g c =
