@@ -1,7 +1,6 @@
 -- The log of turns.
 use Rattle.std.proofs.Common.{◌≡◌, ◌⊎◌, inl, inr, ℕ, ◌+◌, ◌<◌, Bool, false, List, [], ◌∷◌, ◌++◌, length, Option, Some, None, Result, Ok, Err, IfOk, refl, arith, sym, ap, subst, ◌∙◌, append_assoc, append-nil}
-use Rattle.std.specs.Prelude.{get_or, replicate, slice_get, take}
-use Rattle.std.specs.declared.net.ip_addr.IpAddr.{IpAddr}
+use Rattle.std.specs.Prelude.{get_or, slice_get, take}
 use Rattle.std.specs.Io.KnownBytes.{Appends, append_known}
 use Rattle.std.specs.declared.net.socket_addr.SocketAddr.{SocketAddr}
 use Rattle.std.proofs.KnownBytes.{Appends-nil, Appends-trans}
@@ -25,9 +24,7 @@ use Rattle.dns_network.specs.Notes.{AreReported, IsReported, OfEvent, OfNote, Re
 use Rattle.dns_network.specs.Reports.{AreReportsOfTurns}
 use Rattle.dns_network.specs.Turn.{TurnMoment}
 use Rattle.dns_network.proofs.Noted.{Took}
-use Rattle.dns_service.specs.declared.log.Counts.{Counts}
-use Rattle.dns_service.specs.Log.{IsLogged, IsLogOf, IsSaid, Logged, listening_line, listening_lines, log_of, report_said, says, zone_line, zone_lines}
-use Rattle.dns_service.specs.Verdict.{none_in}
+use Rattle.dns_service.specs.Log.{IsLogged, IsLogOf, IsSaid, Known, Logged, listening_line, listening_lines, log_of, nothing_known, report_said, says, zone_line, zone_lines}
 use Rattle.dns_network.specs.Left.{RestLaw}
 use Rattle.dns_service.specs.ServedTurns.{HasTurned, IsLedTo, IsServedOn, OfRun}
 use Rattle.dns_service.proofs.Turned.{has_been_turned}
@@ -61,14 +58,13 @@ reported_so l mark names hushed failed state taken observed old (OfEvent event e
 -- A log before the first report.
 pub record BeginsLog (log : Logged) : Type 0 where
   pub none : log.lines ≡ []
-  pub fresh : log.counts ≡ none_in 0
-  pub unknown : log.addresses ≡ replicate 64 None
+  pub fresh : log.known ≡ nothing_known
 
 -- What is said of reports, in a log that stays the same one, and of which no line failed.
 module _ {L M : Type 0} (l : notes.Ghosts L) (mark : L → M) (names : L → List Labels) (hushed : L → Bool) (failed : L → Bool) (state : L → Logged)
     (taken_so : (old : L) (one : Report) (new : L) → IsReported l old one new → LogsOn mark names hushed failed state one old new) where
   reports_logged : (origins : List Labels) (quiet : Bool) (taken : List Report) (old new : L) → names old ≡ origins → hushed old ≡ quiet → AreReported l taken old new → failed new ≡ false
-      → (failed old ≡ false) × Appends (says (state old)) (says (state new)) (log_of quiet origins (state old).counts (state old).addresses taken)
+      → (failed old ≡ false) × Appends (says (state old)) (says (state new)) (log_of quiet origins (state old).known taken)
   reports_logged origins quiet [] old new known is same whole = (
     subst (λ (x : L). failed x ≡ false) same whole,
     subst (λ (x : L). Appends (says (state old)) (says (state x)) []) (sym same) (Appends-nil (says (state old))),
@@ -77,16 +73,14 @@ module _ {L M : Type 0} (l : notes.Ghosts L) (mark : L → M) (names : L → Lis
       let step = taken_so old one between here in
       let later = reports_logged origins quiet rest between new (step.1 ∙ known) (step.2 ∙ is) pending whole in
       let now = step.3.said later.0 in
-      let named : IsSaid (report_said (hushed old) origins (state old).counts (state old).addresses one) (state old) (state between) =
-      subst (λ (x : List Labels). IsSaid (report_said (hushed old) x (state old).counts (state old).addresses one) (state old) (state between)) known now.1 in
-      let said : IsSaid (report_said quiet origins (state old).counts (state old).addresses one) (state old) (state between) =
-      subst (λ (x : Bool). IsSaid (report_said x origins (state old).counts (state old).addresses one) (state old) (state between)) is named in
-      let first = report_said quiet origins (state old).counts (state old).addresses one in
-      let at_counts : Appends (says (state between)) (says (state new)) (log_of quiet origins first.counts (state between).addresses rest) =
-      subst (λ (x : Counts). Appends (says (state between)) (says (state new)) (log_of quiet origins x (state between).addresses rest)) said.counts later.1 in (
+      let named : IsSaid (report_said (hushed old) origins (state old).known one) (state old) (state between) =
+      subst (λ (x : List Labels). IsSaid (report_said (hushed old) x (state old).known one) (state old) (state between)) known now.1 in
+      let said : IsSaid (report_said quiet origins (state old).known one) (state old) (state between) =
+      subst (λ (x : Bool). IsSaid (report_said x origins (state old).known one) (state old) (state between)) is named in
+      let first = report_said quiet origins (state old).known one in (
         now.0,
-        Appends-trans (says (state old)) (says (state between)) (says (state new)) first.text (log_of quiet origins first.counts first.addresses rest) said.text
-            (subst (λ (x : List (Option IpAddr)). Appends (says (state between)) (says (state new)) (log_of quiet origins first.counts x rest)) said.addresses at_counts),
+        Appends-trans (says (state old)) (says (state between)) (says (state new)) first.text (log_of quiet origins first.known rest) said.text
+            (subst (λ (x : Known). Appends (says (state between)) (says (state new)) (log_of quiet origins x rest)) said.known later.1),
       )
 
   stays : (taken : List Report) (old new : L) → AreReported l taken old new → mark old ≡ mark new
@@ -99,12 +93,10 @@ module _ {L M : Type 0} (l : notes.Ghosts L) (mark : L → M) (names : L → Lis
       → (mark old ≡ mark new → err_after ≡ out) → Took l (AreReportsOfTurns turns) old new → IsLogOf [] (hushed old) (names old) addresses err err_after turns
   turns_logged addresses err out err_after old new turns said begins whole written at took =
       let noted = reports_logged (names old) (hushed old) took.0 old new refl refl took.2 whole in
-      let more = log_of (hushed old) (names old) (none_in 0) (replicate 64 None) took.0 in
-      let from_none : Appends (says (state old)) (says (state new)) (log_of (hushed old) (names old) (none_in 0) (state old).addresses took.0) =
-      subst (λ (x : Counts). Appends (says (state old)) (says (state new)) (log_of (hushed old) (names old) x (state old).addresses took.0)) begins.fresh noted.1 in
+      let more = log_of (hushed old) (names old) nothing_known took.0 in
       let begun : Appends (append_known (state old).written []) (says (state new)) more =
       subst (λ (x : List ℕ). Appends (append_known (state old).written x) (says (state new)) more) begins.none
-      (subst (λ (x : List (Option IpAddr)). Appends (says (state old)) (says (state new)) (log_of (hushed old) (names old) (none_in 0) x took.0)) begins.unknown from_none) in
+      (subst (λ (x : Known). Appends (says (state old)) (says (state new)) (log_of (hushed old) (names old) x took.0)) begins.fresh noted.1) in
       let all : Appends (state old).written out more = says_written (state old).written (state new).written out (state new).lines more (says_all (state old).written (says (state new)) more begun) written in (
         took.0,
         took.1,
@@ -172,7 +164,7 @@ after_zones (Ok status) quiet origins addresses count err between err_after keep
     turned.1,
     λ m kept.
         let is = turned.2 m kept in
-        ((is.0.0, is.0.1, Appends-trans err between err_after (zone_lines origins m.zones) (listening_lines addresses ++ log_of quiet origins (none_in 0) (replicate 64 None) is.0.0) (said m kept) is.0.2), is.1),
+        ((is.0.0, is.0.1, Appends-trans err between err_after (zone_lines origins m.zones) (listening_lines addresses ++ log_of quiet origins nothing_known is.0.0) (said m kept) is.0.2), is.1),
   ),
 )
 

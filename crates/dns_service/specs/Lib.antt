@@ -12,6 +12,7 @@ pub mod ServedTurns
 pub mod Socket
 pub mod Sockets
 pub mod SystemCalls
+pub mod TransferLines
 pub mod Udp
 pub mod UpdateLines
 pub mod Verdict

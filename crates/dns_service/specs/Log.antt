@@ -1,5 +1,5 @@
 -- The lines of a server's log.
-use Rattle.std.specs.Prelude.{◌≡◌, ◌+◌, ◌==◌, ℕ, Bool, false, List, [], ◌∷◌, ◌++◌, length, replicate}
+use Rattle.std.specs.Prelude.{◌≡◌, ◌+◌, ◌==◌, ℕ, Bool, true, false, List, [], ◌∷◌, ◌++◌, length, replicate}
 use Rattle.std.specs.Prelude.{slice_get, slice_set, Option, Some, None, codes, decimal, flat_map}
 use Rattle.std.specs.Prelude.{if◌then◌else◌}
 use Rattle.std.specs.declared.net.ip_addr.IpAddr.{IpAddr}
@@ -13,6 +13,8 @@ use Rattle.dns_zone.specs.Zone.{Zone, soas}
 use Rattle.dns_changes.specs.Version.{serial_in}
 use Rattle.dns_versions.specs.Held.{shown_zone}
 use Rattle.dns_primary.specs.Machine.{ZoneState, kept_of}
+use Rattle.dns_primary.specs.Step.{Event}
+use Rattle.dns_primary.specs.declared.event.Effects.{Effects}
 use Rattle.dns_primary.specs.declared.event.Peer.{Peer}
 use Rattle.dns_network.specs.declared.network.Note.{Note}
 use Rattle.dns_network.specs.declared.network.Note.TheVariants as note
@@ -21,6 +23,8 @@ use Rattle.dns_network.specs.Reports.{AreReportsOfTurns}
 use Rattle.dns_network.specs.Turn.{TurnMoment}
 use Rattle.dns_configuration.specs.Faults.{line}
 use Rattle.dns_service.specs.declared.log.Counts.{Counts}
+use Rattle.dns_service.specs.declared.transfer_lines.Transfer.{Transfer}
+use Rattle.dns_service.specs.TransferLines.{transfer_said, transfers_after}
 use Rattle.dns_service.specs.UpdateLines.{event_said}
 use Rattle.dns_service.specs.Verdict.{by_verdict, line_verdict, none_in}
 
@@ -92,61 +96,92 @@ addresses_after (note.Device place) addresses = addresses
 addresses_after (note.Begins now) addresses = addresses
 addresses_after note.Ends addresses = addresses
 
--- What is written of a report, and the counts and the addresses of connections after it.
-pub record Said : Type 0 where
-  pub text : List ℕ
+-- The transfers that are open by the numbers of connections, after a note: none is on one that is closed.
+abbrev pub transfers_noted : Note → List (Option Transfer) → List (Option Transfer)
+transfers_noted (note.Opened number peer) transfers = transfers
+transfers_noted (note.Closed number) transfers = slice_set transfers number None
+transfers_noted note.Refused transfers = transfers
+transfers_noted note.OutOfMemory transfers = transfers
+transfers_noted (note.Device place) transfers = transfers
+transfers_noted (note.Begins now) transfers = transfers
+transfers_noted note.Ends transfers = transfers
+
+-- What a log knows besides what it says: what peers have caused in this second, and of the connections by
+-- their numbers the addresses and the open transfers.
+pub record Known : Type 0 where
   pub counts : Counts
   pub addresses : List (Option IpAddr)
+  pub transfers : List (Option Transfer)
 
-abbrev pub said_with : List ℕ × Counts → List (Option IpAddr) → Said
-said_with said addresses = record { text = said.0; counts = said.1; addresses = addresses }
+abbrev pub nothing_known : Known
+nothing_known =
+    record { counts = none_in 0; addresses = replicate 64 None; transfers = replicate 64 None }
+
+-- What is written of a report, and what is known after it.
+pub record Said : Type 0 where
+  pub text : List ℕ
+  pub known : Known
+
+abbrev pub note_said : Bool → List Labels → Known → Note → Said
+note_said quiet origins k one = record {
+  text = (said_of quiet origins k.counts one).0;
+  known = record {
+    counts = (said_of quiet origins k.counts one).1;
+    addresses = addresses_after one k.addresses;
+    transfers = transfers_noted one k.transfers;
+  };
+}
+
+abbrev pub observation_said : List Labels → Known → Event → Effects → Said
+observation_said origins k event effects = record {
+  text = (event_said origins k.addresses k.counts event effects).0
+      ++ transfer_said origins k.addresses k.transfers event effects;
+  known = record {
+    counts = (event_said origins k.addresses k.counts event effects).1;
+    addresses = k.addresses;
+    transfers = transfers_after origins k.transfers event effects;
+  };
+}
 
 -- In a quiet log there is no line of an event.
-abbrev pub report_said : Bool → List Labels → Counts → List (Option IpAddr) → Report → Said
-report_said quiet origins counts addresses (OfNote one) =
-    said_with (said_of quiet origins counts one) (addresses_after one addresses)
-report_said quiet origins counts addresses (OfEvent event effects) =
-    said_with (if quiet then ([], counts) else event_said origins addresses counts event effects) addresses
+abbrev pub report_said : Bool → List Labels → Known → Report → Said
+report_said quiet origins k (OfNote one) = note_said quiet origins k one
+report_said true origins k (OfEvent event effects) = record { text = []; known = k }
+report_said false origins k (OfEvent event effects) = observation_said origins k event effects
 
 -- What is written of reports, one after the other.
-abbrev pub log_of : Bool → List Labels → Counts → List (Option IpAddr) → List Report → List ℕ
-log_of quiet origins counts addresses [] = []
-log_of quiet origins counts addresses (one ∷ rest) =
-    let said = report_said quiet origins counts addresses one in
-    said.text ++ log_of quiet origins said.counts said.addresses rest
+abbrev pub log_of : Bool → List Labels → Known → List Report → List ℕ
+log_of quiet origins k [] = []
+log_of quiet origins k (one ∷ rest) =
+    let said = report_said quiet origins k one in said.text ++ log_of quiet origins said.known rest
 
 -- This was appended to lines, and these are the counts then.
 pub record IsAdded (said : List ℕ × Counts) (lines lines_after : List ℕ) (after : Counts) : Type 0 where
   pub lines_are : lines_after ≡ lines ++ said.0
   pub counts_are : after ≡ said.1
 
--- This was appended to what a log says, in lines or written out, and these are the counts then.
-pub record IsAppended (said : List ℕ × Counts) (written : Option (List ℕ)) (lines : List ℕ)
-    (written_after : Option (List ℕ)) (lines_after : List ℕ) (after : Counts) : Type 0 where
-  pub text : Appends (append_known written lines) (append_known written_after lines_after) said.0
-  pub counts_are : after ≡ said.1
-
--- What a log has: what was written, lines that are still to be written, the counts, and the addresses of
--- connections.
+-- What a log has: what was written, lines that are still to be written, and what it knows.
 pub record Logged : Type 0 where
   pub written : Option (List ℕ)
   pub lines : List ℕ
-  pub counts : Counts
-  pub addresses : List (Option IpAddr)
+  pub known : Known
 
-abbrev pub logged : Option (List ℕ) → List ℕ → Counts → List (Option IpAddr) → Logged
-logged written lines counts addresses =
-    record { written = written; lines = lines; counts = counts; addresses = addresses }
+abbrev pub logged : Option (List ℕ) → List ℕ → Counts → List (Option IpAddr) → List (Option Transfer)
+    → Logged
+logged written lines counts addresses transfers = record {
+  written = written;
+  lines = lines;
+  known = record { counts = counts; addresses = addresses; transfers = transfers };
+}
 
 -- What a log says so far.
 abbrev pub says : Logged → Option (List ℕ)
 says log = append_known log.written log.lines
 
--- This is said after all that was said, and these are the counts and the addresses then.
+-- This is said after all that was said, and this is known then.
 pub record IsSaid (said : Said) (log after : Logged) : Type 0 where
   pub text : Appends (says log) (says after) said.text
-  pub counts : after.counts ≡ said.counts
-  pub addresses : after.addresses ≡ said.addresses
+  pub known : after.known ≡ said.known
 
 -- After it all lines are written out: a turn ends; or updates are answered, whose replies go out next.
 abbrev pub IsWrittenAt : Bool → Report → Type 0
@@ -158,7 +193,7 @@ IsWrittenAt quiet (OfEvent event effects) = (quiet ≡ false) × (effects.header
 pub record IsLogged (quiet : Bool) (origins : List Labels) (one : Report) (failed failed_after : Bool)
     (log after : Logged) : Type 0 where
   pub said : failed_after ≡ false
-      → (failed ≡ false) × IsSaid (report_said quiet origins log.counts log.addresses one) log after
+      → (failed ≡ false) × IsSaid (report_said quiet origins log.known one) log after
   pub written : IsWrittenAt quiet one → after.lines ≡ []
 
 -- The log of these turns was written after all that had been written: first these lines, then those of the
@@ -168,4 +203,4 @@ abbrev pub IsLogOf : List ℕ → Bool → List Labels → List SocketAddr → O
 IsLogOf first quiet origins addresses err err_after turns =
     (reports : List Report) × AreReportsOfTurns turns reports
     × Appends err err_after
-    (first ++ (listening_lines addresses ++ log_of quiet origins (none_in 0) (replicate 64 None) reports))
+    (first ++ (listening_lines addresses ++ log_of quiet origins nothing_known reports))

@@ -94,16 +94,23 @@ request_said counts address (Query m q) code = ([], counts)
 abbrev pub asked_said : Counts → IpAddr → List ℕ → Transport → ℕ → List ℕ × Counts
 asked_said counts address octets transport code = request_said counts address (request_of octets transport) code
 
+-- The address of the peer of a connection, if it is known.
+abbrev pub known : Option (Option IpAddr) → Option IpAddr
+known None = None
+known (Some address) = address
+
+abbrev pub address_on : List (Option IpAddr) → ℕ → Option IpAddr
+address_on addresses number = known (slice_get addresses number)
+
 -- The address of the connection that it came on is known, or nothing is written.
-abbrev pub arrived_said : Option (Option IpAddr) → Counts → List ℕ → ℕ → List ℕ × Counts
-arrived_said (Some (Some address)) counts octets code = asked_said counts address octets Tcp code
-arrived_said (Some None) counts octets code = ([], counts)
+abbrev pub arrived_said : Option IpAddr → Counts → List ℕ → ℕ → List ℕ × Counts
+arrived_said (Some address) counts octets code = asked_said counts address octets Tcp code
 arrived_said None counts octets code = ([], counts)
 
 abbrev pub refusal_said : List (Option IpAddr) → Counts → Event → ℕ → List ℕ × Counts
 refusal_said addresses counts (Datagram peer octets) code = asked_said counts peer.address octets Udp code
 refusal_said addresses counts (Arrives number octets) code =
-    arrived_said (slice_get addresses number) counts octets code
+    arrived_said (address_on addresses number) counts octets code
 refusal_said addresses counts (Connect peer) code = ([], counts)
 refusal_said addresses counts Flush code = ([], counts)
 refusal_said addresses counts (Checkpoint place) code = ([], counts)

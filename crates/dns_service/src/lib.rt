@@ -11,9 +11,11 @@ mod opening;
 mod peers;
 mod readiness;
 mod server;
+mod slots;
 mod socket;
 mod sockets;
 mod system;
+mod transfer_lines;
 mod udp;
 mod update_lines;
 

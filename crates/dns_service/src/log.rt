@@ -1,15 +1,16 @@
 //! What a server reports of its turns: lines, of which those that peers can cause are at most 20 a second.
 ghost use Rattle.std.specs.Prelude.{◌≡◌, ◌++◌, Bool, false, true, List, [], IfSome, OnOk, IfOk};
-ghost use Rattle.std.specs.Prelude.{Some, slice_set};
 ghost use Rattle.std.specs.Io.KnownBytes.{Appends};
 ghost use Rattle.dns_names.specs.Name.{Labels};
 ghost use Rattle.dns_primary.specs.Steps.{event_shown};
 ghost use Rattle.dns_network.specs.Notes.{OfEvent, OfNote};
-ghost use Rattle.dns_service.specs.Log.{IsAdded, IsLogged, addresses_after, closed_line, count_line, logged};
-ghost use Rattle.dns_service.specs.Log.{IsAppended, opened_line, said_of, summary};
-ghost use Rattle.dns_service.specs.UpdateLines.{event_said};
+ghost use Rattle.dns_service.specs.Log.{IsAdded, IsLogged, IsSaid, Known, addresses_after, closed_line};
+ghost use Rattle.dns_service.specs.Log.{count_line, logged, observation_said, opened_line, said_of, summary};
+ghost use Rattle.dns_service.specs.Log.{transfers_noted};
 ghost use Rattle.dns_service.specs.Verdict.{by_verdict, line_verdict, none_in};
 
+use crate::slots::set;
+use crate::transfer_lines::{Transfer, add_transfer, is_beside_transfers, keep_transfers};
 use crate::update_lines::{add_event, have_no_line};
 use dns_memory::Heap;
 use dns_names::Name;
@@ -170,6 +171,8 @@ pub(crate) struct Log<'a, E: Write> {
     pub(crate) is_quiet: bool,
     /// The addresses of the connections that were opened, by their numbers.
     pub(crate) addresses: &'a mut Vec<Option<IpAddr>, Heap>,
+    /// The transfers that are open, by the numbers of their connections.
+    pub(crate) transfers: &'a mut Vec<Option<Transfer>, Heap>,
     /// The lines of the turn, which are written when it ends.
     pub(crate) lines: &'a mut Vec<u8, Heap>,
     pub(crate) counts: Counts,
@@ -196,6 +199,7 @@ impl<E: Write> Log<'_, E> {
         ensures quiet { self.new.is_quiet ≡ self.old.is_quiet }
         ensures counts { self.new.counts ≡ self.old.counts }
         ensures addresses { self.new.addresses.now.items ≡ self.old.addresses.now.items }
+        ensures transfers { self.new.transfers.now.items ≡ self.old.transfers.now.items }
         ensures still { self.new.has_failed ≡ self.old.has_failed }
         ensures none { self.new.lines.now.items ≡ [] }
         ensures written { OnOk result
@@ -206,23 +210,6 @@ impl<E: Write> Log<'_, E> {
         written
     }
 
-    /// Keeps the address of a connection.
-    fn keep_address(&mut self, number: usize, address: IpAddr)
-        ensures same_reference { self.new.err.ghost_name ≡ self.old.err.ghost_name }
-        ensures text { E.contents self.new.err.now ≡ E.contents self.old.err.now }
-        ensures rest { (self.new.origins.now ≡ self.old.origins.now)
-            × (self.new.is_quiet ≡ self.old.is_quiet)
-            × (self.new.counts ≡ self.old.counts)
-            × (self.new.has_failed ≡ self.old.has_failed)
-            × (self.new.lines.now.items ≡ self.old.lines.now.items) }
-        ensures kept { self.new.addresses.now.items
-            ≡ slice_set self.old.addresses.now.items number (Some address) }
-    {
-        if number < self.addresses.len() {
-            self.addresses[number] = Some(address);
-        }
-    }
-
     /// Takes a note of which lines are to be written when the turn ends, or none.
     fn take(&mut self, note: Note)
         ensures same_reference { self.new.err.ghost_name ≡ self.old.err.ghost_name }
@@ -231,12 +218,17 @@ impl<E: Write> Log<'_, E> {
         ensures quiet { self.new.is_quiet ≡ self.old.is_quiet }
         ensures addresses { self.new.addresses.now.items
             ≡ addresses_after note self.old.addresses.now.items }
+        ensures transfers { self.new.transfers.now.items
+            ≡ transfers_noted note self.old.transfers.now.items }
         ensures said { self.new.has_failed ≡ false → (self.old.has_failed ≡ false)
             × IsAdded (said_of self.old.is_quiet self.old.origins.now self.old.counts note)
             self.old.lines.now.items self.new.lines.now.items self.new.counts }
     {
         if let Note::Opened(number, peer) = note {
-            self.keep_address(number, peer.address);
+            set(self.addresses, number, Some(peer.address));
+        }
+        if let Note::Closed(number) = note {
+            set(self.transfers, number, None);
         }
         let (origins, is_quiet, counts) = (self.origins, self.is_quiet, self.counts);
         match add(self.lines, origins, is_quiet, counts, note) {
@@ -247,24 +239,59 @@ impl<E: Write> Log<'_, E> {
 }
 
 impl<E: Write> Log<'_, E> {
-    /// Appends what is reported of an event and its effects, and writes all lines out if updates are answered.
+    /// Appends what is reported of an event and its effects, and keeps what it makes of the open transfers.
+    fn add_report(&mut self, event: Event<'_>, effects: &Effects) -> io::Result<()>
+        ensures same_reference { self.new.err.ghost_name ≡ self.old.err.ghost_name }
+        ensures text { E.contents self.new.err.now ≡ E.contents self.old.err.now }
+        ensures origins { self.new.origins.now ≡ self.old.origins.now }
+        ensures quiet { self.new.is_quiet ≡ self.old.is_quiet }
+        ensures addresses { self.new.addresses.now.items ≡ self.old.addresses.now.items }
+        ensures failed { self.new.has_failed ≡ self.old.has_failed }
+        ensures said { OnOk result (let said = observation_said self.old.origins.now
+            (record {
+              counts = self.old.counts;
+              addresses = self.old.addresses.now.items;
+              transfers = self.old.transfers.now.items;
+            }) (event_shown event.entry) effects.now in
+            (self.new.lines.now.items ≡ self.old.lines.now.items ++ said.text)
+            × (self.new.counts ≡ said.known.counts)
+            × (self.new.transfers.now.items ≡ said.known.transfers)) }
+    {
+        let (origins, counts) = (self.origins, self.counts);
+        let alloc = *self.lines.allocator();
+        self.counts = add_event(self.lines, origins, self.addresses, counts, event, effects)?;
+        add_transfer(
+            self.lines,
+            origins,
+            self.addresses,
+            self.transfers,
+            event,
+            effects,
+        )?;
+        keep_transfers(alloc, origins, self.transfers, event, effects)
+    }
+
+    /// Takes what is to be reported of an event, and writes all lines out if updates are answered.
     #[inline(never)]
     fn report(&mut self, event: Event<'_>, effects: &Effects)
         ensures same_reference { self.new.err.ghost_name ≡ self.old.err.ghost_name }
         ensures origins { self.new.origins.now ≡ self.old.origins.now }
         ensures quiet { self.new.is_quiet ≡ self.old.is_quiet }
-        ensures addresses { self.new.addresses.now.items ≡ self.old.addresses.now.items }
         ensures said { self.new.has_failed ≡ false → (self.old.has_failed ≡ false)
-            × IsAppended (event_said self.old.origins.now self.old.addresses.now.items self.old.counts
-            (event_shown event.entry) effects.now)
-            (E.contents self.old.err.now) self.old.lines.now.items
-            (E.contents self.new.err.now) self.new.lines.now.items self.new.counts }
+            × IsSaid (observation_said self.old.origins.now
+            (record {
+              counts = self.old.counts;
+              addresses = self.old.addresses.now.items;
+              transfers = self.old.transfers.now.items;
+            }) (event_shown event.entry) effects.now)
+            (logged (E.contents self.old.err.now) self.old.lines.now.items self.old.counts
+            self.old.addresses.now.items self.old.transfers.now.items)
+            (logged (E.contents self.new.err.now) self.new.lines.now.items self.new.counts
+            self.new.addresses.now.items self.new.transfers.now.items) }
         ensures written { (effects.now.headers.items ≡ [] → ⊥) → self.new.lines.now.items ≡ [] }
     {
-        let (origins, counts) = (self.origins, self.counts);
-        match add_event(self.lines, origins, self.addresses, counts, event, effects) {
-            Ok(after) => self.counts = after,
-            Err(_) => self.has_failed = true,
+        if let Err(_) = self.add_report(event, effects) {
+            self.has_failed = true;
         }
         if effects.headers.is_empty() {
             return;
@@ -272,6 +299,19 @@ impl<E: Write> Log<'_, E> {
         if let Err(_) = self.write_out() {
             self.has_failed = true;
         }
+    }
+}
+
+impl<E: Write> Log<'_, E> {
+    /// Whether nothing is to be said of an event and its effects, nor to be known of them.
+    #[inline(always)]
+    fn is_silent(&self, event: Event<'_>, effects: &Effects) -> bool
+        ensures { result ≡ true → (k : Known) → k.transfers ≡ self.now.transfers.now.items
+            → (origins : List Labels)
+            → observation_said origins k (event_shown event.entry) effects.now
+            ≡ record { text = []; known = k } }
+    {
+        have_no_line(effects) && is_beside_transfers(self.transfers, event, effects)
     }
 }
 
@@ -292,15 +332,19 @@ impl<E: Write> Observer for Log<'_, E> {
         × (new.origins.now ≡ old.origins.now)
         × (new.is_quiet ≡ old.is_quiet)
         × IsLogged old.is_quiet old.origins.now (OfNote note) old.has_failed new.has_failed
-        (logged (E.contents old.err.now) old.lines.now.items old.counts old.addresses.now.items)
-        (logged (E.contents new.err.now) new.lines.now.items new.counts new.addresses.now.items) };
+        (logged (E.contents old.err.now) old.lines.now.items old.counts old.addresses.now.items
+        old.transfers.now.items)
+        (logged (E.contents new.err.now) new.lines.now.items new.counts new.addresses.now.items
+        new.transfers.now.items) };
 
     ghost observes = { λ old event effects new. (new.err.ghost_name ≡ old.err.ghost_name)
         × (new.origins.now ≡ old.origins.now)
         × (new.is_quiet ≡ old.is_quiet)
         × IsLogged old.is_quiet old.origins.now (OfEvent event effects) old.has_failed new.has_failed
-        (logged (E.contents old.err.now) old.lines.now.items old.counts old.addresses.now.items)
-        (logged (E.contents new.err.now) new.lines.now.items new.counts new.addresses.now.items) };
+        (logged (E.contents old.err.now) old.lines.now.items old.counts old.addresses.now.items
+        old.transfers.now.items)
+        (logged (E.contents new.err.now) new.lines.now.items new.counts new.addresses.now.items
+        new.transfers.now.items) };
 
     /// A turn in which nothing is said costs two comparisons.
     #[inline]
@@ -322,7 +366,7 @@ impl<E: Write> Observer for Log<'_, E> {
     /// An event of which nothing is said, as a query that is answered, costs some comparisons.
     #[inline]
     fn observe(&mut self, event: Event<'_>, effects: &Effects) {
-        if self.is_quiet || have_no_line(effects) {
+        if self.is_quiet || self.is_silent(event, effects) {
             return;
         }
         self.report(event, effects);

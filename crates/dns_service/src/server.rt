@@ -180,12 +180,15 @@ fn listen<R: Net + Clock, I: ZoneIndex, S: ZoneStore, E: Write>(
     let mut lines = Vec::new(heap);
     let mut opened = Vec::new(heap);
     opened.resize(CONNECTIONS, None)?;
+    let mut transfers = Vec::new(heap);
+    transfers.resize(CONNECTIONS, None)?;
     let counts = Counts::new(0);
     let mut log = Log {
         err,
         origins,
         is_quiet,
         addresses: &mut opened,
+        transfers: &mut transfers,
         lines: &mut lines,
         counts,
         has_failed: false,

@@ -7,7 +7,7 @@ ghost use Rattle.dns_primary.specs.Steps.{event_shown};
 ghost use Rattle.dns_primary.specs.To.{octets_in};
 ghost use Rattle.dns_service.specs.declared.log.Counts.{Counts as StatedCounts};
 ghost use Rattle.dns_service.specs.Log.{IsAdded};
-ghost use Rattle.dns_service.specs.UpdateLines.{asked_said, code_of, code_word, event_said, header_said};
+ghost use Rattle.dns_service.specs.UpdateLines.{address_on, asked_said, code_of, code_word, event_said, header_said};
 ghost use Rattle.dns_service.specs.UpdateLines.{headers_said, is_refusal, refusal_said, refused_line};
 ghost use Rattle.dns_service.specs.UpdateLines.{reply_said, update_text};
 ghost use Rattle.dns_service.specs.Verdict.{by_verdict, line_verdict};
@@ -173,6 +173,16 @@ fn add_asked(
     }
 }
 
+/// The address of the peer of a connection, if it is known.
+pub(crate) fn address_on(addresses: &[Option<IpAddr>], number: usize) -> Option<IpAddr>
+    ensures { result ≡ address_on addresses.now number }
+{
+    match addresses.get(number) {
+        Some(address) => *address,
+        None => None,
+    }
+}
+
 /// Appends what is reported of an event that was refused at once with a code.
 fn add_refusal(
     lines: &mut Vec<u8, Heap>,
@@ -189,11 +199,8 @@ fn add_refusal(
         Event::Datagram(peer, octets) => {
             add_asked(lines, counts, peer.address, octets, Transport::Udp, code)
         }
-        Event::Message(number, octets) => match addresses.get(number) {
-            Some(Some(address)) => {
-                add_asked(lines, counts, *address, octets, Transport::Tcp, code)
-            }
-            Some(None) => Ok(counts),
+        Event::Message(number, octets) => match address_on(addresses, number) {
+            Some(address) => add_asked(lines, counts, address, octets, Transport::Tcp, code),
             None => Ok(counts),
         },
         Event::Connect(_) => Ok(counts),

@@ -1,6 +1,5 @@
-use Rattle.std.proofs.Common.{ℕ, List, ◌++◌, ◌-◌, length, Option, None, inr, refl, sym, ap, subst, take, ◌∙◌}
+use Rattle.std.proofs.Common.{◌≡◌, ℕ, List, [], ◌++◌, ◌-◌, length, Option, None, inr, refl, sym, ap, subst, take, ◌∙◌}
 use Rattle.std.specs.Prelude.{replicate}
-use Rattle.std.specs.declared.net.ip_addr.IpAddr.{IpAddr}
 use Rattle.std.specs.Io.KnownBytes.{Appends}
 use Rattle.std.proofs.KnownBytes.{Appends-nil}
 use Rattle.dns_primary.specs.Keeps.{IsKept}
@@ -10,6 +9,10 @@ use Rattle.dns_service.proofs.Logged.{has_listened}
 use Rattle.dns_service.proofs.Turned.{has_been_turned, none_run, some_run}
 use Rattle.dns_service.proofs.server.listen.Goals as goal
 
+-- Slots in a list that was empty.
+none_yet : {T : Type 0} {old new : List (Option T)} → old ≡ [] → new ≡ take 64 old ++ replicate (64 - length old) None → new ≡ replicate 64 None
+none_yet {T = T} empty filled = filled ∙ ap (λ (x : List (Option T)). take 64 x ++ replicate (64 - length x) None) empty
+
 pub returns-clause-ended : goal.returns-clause-ended
 returns-clause-ended g c =
     let text = g.E.Write.contents in
@@ -17,10 +20,10 @@ returns-clause-ended g c =
     let is = c.if-not-is_written.false in
     inr (
       refl,
-      has_listened (λ x k kept z left. g.met.S.ZoneStore.at_rest x k kept z left) c.in_ok-run.ensures (λ log. log.err.ghost_name) (λ log. log.origins.now) (λ log. log.is_quiet) (λ log. log.has_failed) (λ log. logged (text log.err.now) log.lines.now.items log.counts log.addresses.now.items) (λ old one new h. h)
+      has_listened (λ x k kept z left. g.met.S.ZoneStore.at_rest x k kept z left) c.in_ok-run.ensures (λ log. log.err.ghost_name) (λ log. log.origins.now) (λ log. log.is_quiet) (λ log. log.has_failed) (λ log. logged (text log.err.now) log.lines.now.items log.counts log.addresses.now.items log.transfers.now.items) (λ old one new h. h)
           (λ old event effects new h. h)
           c.args.addresses.now (text c.args.err.now) said c.in_ok-tell_listening.ensures
-          (record { none = c.new-lines.ensures.items; fresh = c.new-counts.ensures; unknown = c.in_ok-resize.ensures.items ∙ ap (λ (x : List (Option IpAddr)). take 64 x ++ replicate (64 - length x) None) c.new-opened.ensures.items }) (c.is_written.ensures.whole is)
+          (record { none = c.new-lines.ensures.items; fresh = λ i. record { counts = c.new-counts.ensures i; addresses = none_yet c.new-opened.ensures.items c.in_ok-resize.ensures.items i; transfers = none_yet c.new-transfers.ensures.items c.in_ok-resize-2.ensures.items i } }) (c.is_written.ensures.whole is)
           (subst (λ (lines : List ℕ). Appends said said lines) (sym (c.is_written.ensures.lines is)) (Appends-nil said)) (λ same. ap text (c.err-2-1.given.1 same)),
     )
 
@@ -44,3 +47,6 @@ returns-in_err-run-clause-run g c = rw c.in_err-run.ensures (none_run (λ x k ke
 
 pub returns-in_err-resize-clause-run : goal.returns-in_err-resize-clause-run
 returns-in_err-resize-clause-run g c = none_run (λ x k kept z left. g.met.S.ZoneStore.at_rest x k kept z left) _
+
+pub returns-in_err-resize-2-clause-run : goal.returns-in_err-resize-2-clause-run
+returns-in_err-resize-2-clause-run g c = none_run (λ x k kept z left. g.met.S.ZoneStore.at_rest x k kept z left) _

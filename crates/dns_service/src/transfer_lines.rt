@@ -1,0 +1,328 @@
+//! The lines of transfers that ended, and the transfers that are open meanwhile.
+ghost use Rattle.std.specs.Prelude.{◌≡◌, ◌++◌, ◌⊎◌, ◌==◌, ◌&&◌, ◌<◌, not, true, List, [], Option, length};
+ghost use Rattle.std.specs.Prelude.{position, slice_get, slice_index, slice_set, OnOk, IfOk};
+ghost use Rattle.std.specs.declared.net.ip_addr.IpAddr.{IpAddr as StatedAddress};
+ghost use Rattle.dns_names.specs.Name.{Labels, names_eq};
+ghost use Rattle.dns_records.specs.Record.{IsRData, serial_of};
+ghost use Rattle.dns_records.specs.Refusals.{RefusesData};
+ghost use Rattle.dns_records.specs.Types.{type_soa};
+ghost use Rattle.dns_wire.specs.Message.{data_of_item, record_of_item};
+ghost use Rattle.dns_wire.specs.Reading.{message_of};
+ghost use Rattle.dns_primary.specs.Steps.{event_shown};
+ghost use Rattle.dns_service.specs.TransferLines.{after_message, after_pump, answers_in, open_on, over_text};
+ghost use Rattle.dns_service.specs.TransferLines.{pump_said, serial_of_message, transfer_asked, transfer_said};
+ghost use Rattle.dns_service.specs.TransferLines.{transfers_after, with_message};
+
+use crate::slots::set;
+use crate::update_lines::address_on;
+use dns_memory::Heap;
+use dns_names::Name;
+use dns_policy::print_address;
+use dns_primary::{Effects, Event, Noted};
+use dns_records::RecordError;
+use dns_records::types::SOA;
+use dns_request::{Request, Transport, classify};
+use dns_wire::{Message, RecordView};
+use std::alloc::AllocError;
+use std::io::{self, ErrorKind, Write};
+use std::net::IpAddr;
+
+/// A transfer that is open on a connection.
+#[derive(Clone, Copy)]
+pub(crate) struct Transfer {
+    /// The position of its zone.
+    pub(crate) zone: usize,
+    /// The serial of the version that is sent, which its first message tells.
+    pub(crate) serial: Option<u32>,
+    /// How many records were sent.
+    pub(crate) records: u64,
+}
+
+/// The index of the first of these names that is the one.
+fn index_of(origins: &[Name], name: &Name) -> Option<usize>
+    ensures { result ≡ position (λ origin. names_eq origin name.now) origins.now }
+{
+    origins.iter().position(|origin| *origin == *name)
+}
+
+/// The transfer that octets ask for, before its first message.
+fn asked(alloc: Heap, origins: &[Name], octets: &[u8]) -> Result<Option<Transfer>, AllocError>
+    ensures { IfOk result (λ transfer. transfer ≡ transfer_asked origins.now octets.now) }
+{
+    match classify(octets, Transport::Tcp) {
+        Request::Transfer(request) => {
+            let name = request.question.name().to_name(alloc)?;
+            match index_of(origins, &name) {
+                Some(zone) => Ok(Some(Transfer {
+                    zone,
+                    serial: None,
+                    records: 0,
+                })),
+                None => Ok(None),
+            }
+        }
+        Request::Ignored => Ok(None),
+        Request::Refused(_, _) => Ok(None),
+        Request::NotServed(_, _) => Ok(None),
+        Request::Query(_) => Ok(None),
+        Request::Update(_) => Ok(None),
+    }
+}
+
+/// Why there is no record of the data of a SOA, which has its form: memory was refused.
+fn refused_memory(error: RecordError, item: &RecordView<'_>) -> AllocError
+    requires soa { item.now.rtype ≡ type_soa }
+    requires form { IsRData type_soa item.now.rdata }
+    requires refused { (error ≡ RecordError.OutOfMemory) ⊎ RefusesData (data_of_item item.now) error }
+{
+    match error {
+        RecordError::OutOfMemory => AllocError,
+        RecordError::BadData => unreachable!(),
+        RecordError::TooLong => unreachable!(),
+        RecordError::UnknownType => unreachable!(),
+    }
+}
+
+/// The serial of a SOA of a message (RFC 1035 section 3.3.13).
+fn serial_of(alloc: Heap, soa: &RecordView<'_>) -> Result<u32, AllocError>
+    requires soa { soa.now.rtype ≡ type_soa }
+    requires form { IsRData type_soa soa.now.rdata }
+    ensures { IfOk result (λ serial. serial ≡ serial_of (record_of_item soa.now)) }
+{
+    match soa.to_record(alloc) {
+        Ok(record) => Ok(record.serial()),
+        Err(error) => Err(refused_memory(error, soa)),
+    }
+}
+
+/// Whether a record of a message is a SOA with data.
+fn is_soa(alloc: Heap, item: &RecordView<'_>) -> Result<bool, AllocError>
+    ensures { IfOk result (λ is. is ≡ (item.now.rtype == type_soa && not (length item.now.rdata == 0))) }
+{
+    let rdata = item.rdata(alloc)?;
+    Ok((item.rtype() == SOA) & !rdata.is_empty())
+}
+
+/// The serial of the first record of a message, if that is a SOA.
+fn first_serial(alloc: Heap, octets: &[u8]) -> Result<Option<u32>, AllocError>
+    ensures { IfOk result (λ serial. serial ≡ serial_of_message (message_of octets.now)) }
+{
+    let Ok(message) = Message::read(octets) else {
+        return Ok(None);
+    };
+    let Some(item) = message.answers().next() else {
+        return Ok(None);
+    };
+    if !is_soa(alloc, &item)? {
+        return Ok(None);
+    }
+    Ok(Some(serial_of(alloc, &item)?))
+}
+
+/// An octet of a message, or 0 after its end.
+fn octet_at(message: &[u8], index: usize) -> u64
+    ensures octet { result ≡ slice_index message.now index }
+    ensures small { result < 256 }
+{
+    match message.get(index) {
+        Some(octet) => u64::from(*octet),
+        None => 0,
+    }
+}
+
+/// How many records a message counts in its answer section.
+fn answers_in(message: &[u8]) -> u64
+    ensures { result ≡ answers_in message.now }
+{
+    octet_at(message, 6) * 256 + octet_at(message, 7)
+}
+
+/// A transfer after one message more.
+fn with_message(alloc: Heap, transfer: Transfer, message: &[u8]) -> io::Result<Transfer>
+    ensures { IfOk result (λ after. after ≡ with_message transfer message.now) }
+{
+    let serial = if transfer.records == 0 {
+        first_serial(alloc, message)?
+    } else {
+        transfer.serial
+    };
+    let Some(records) = transfer.records.checked_add(answers_in(message)) else {
+        return Err(ErrorKind::Other.into());
+    };
+    Ok(Transfer {
+        zone: transfer.zone,
+        serial,
+        records,
+    })
+}
+
+/// Keeps the transfer that a message opened, if it got no reply and nothing was noted of it.
+fn keep_opened(
+    alloc: Heap,
+    origins: &[Name],
+    transfers: &mut [Option<Transfer>],
+    number: usize,
+    octets: &[u8],
+    effects: &Effects,
+) -> Result<(), AllocError>
+    ensures { OnOk result (transfers.new
+        ≡ after_message origins.now transfers.old number octets.now effects.now.message effects.now.noted) }
+{
+    if effects.message.is_some() | (effects.noted != Noted::Nothing) {
+        return Ok(());
+    }
+    if let Some(transfer) = asked(alloc, origins, octets)? {
+        set(transfers, number, Some(transfer));
+    }
+    Ok(())
+}
+
+/// The transfer that is open on a connection.
+fn open_on(transfers: &[Option<Transfer>], number: usize) -> Option<Transfer>
+    ensures { result ≡ open_on transfers.now number }
+{
+    match transfers.get(number) {
+        Some(transfer) => *transfer,
+        None => None,
+    }
+}
+
+/// Keeps what a pump made of the transfer on a connection: it has sent a message more, or it is over.
+fn keep_pumped(
+    alloc: Heap,
+    transfers: &mut [Option<Transfer>],
+    number: usize,
+    effects: &Effects,
+) -> io::Result<()>
+    ensures { OnOk result (transfers.new
+        ≡ after_pump transfers.old number (open_on transfers.old number) effects.now.message effects.now.noted) }
+{
+    let Some(transfer) = open_on(transfers, number) else {
+        return Ok(());
+    };
+    match &effects.message {
+        Some(reply) => {
+            let after = with_message(alloc, transfer, reply.octets.as_slice())?;
+            set(transfers, number, Some(after));
+        }
+        None => {
+            if effects.noted == Noted::Nothing {
+                set(transfers, number, None);
+            }
+        }
+    }
+    Ok(())
+}
+
+/// Keeps what an event makes of the open transfers.
+pub(crate) fn keep_transfers(
+    alloc: Heap,
+    origins: &[Name],
+    transfers: &mut [Option<Transfer>],
+    event: Event<'_>,
+    effects: &Effects,
+) -> io::Result<()>
+    ensures { OnOk result (transfers.new
+        ≡ transfers_after origins.now transfers.old (event_shown event.entry) effects.now) }
+{
+    match event {
+        Event::Message(number, octets) => {
+            Ok(keep_opened(alloc, origins, transfers, number, octets, effects)?)
+        }
+        Event::Pump(number) => keep_pumped(alloc, transfers, number, effects),
+        Event::Datagram(_, _) => Ok(()),
+        Event::Connect(_) => Ok(()),
+        Event::Flush => Ok(()),
+        Event::Checkpoint(_) => Ok(()),
+        Event::Closed(_) => Ok(()),
+    }
+}
+
+/// Appends the line of a transfer that is over, if its peer, its zone and its serial are known.
+fn add_over(
+    lines: &mut Vec<u8, Heap>,
+    origins: &[Name],
+    address: Option<IpAddr>,
+    transfer: Transfer,
+) -> io::Result<()>
+    ensures { OnOk result (lines.new.items ≡ lines.old.items
+        ++ over_text address (slice_get origins.now transfer.zone) transfer.serial transfer.records) }
+{
+    let Some(address) = address else {
+        return Ok(());
+    };
+    let Some(origin) = origins.get(transfer.zone) else {
+        return Ok(());
+    };
+    let Some(serial) = transfer.serial else {
+        return Ok(());
+    };
+    let address = print_address(address);
+    let records = transfer.records;
+    writeln!(
+        lines,
+        "transfer {address} {origin} {serial} records {records}"
+    )
+}
+
+/// Appends the line of the transfer that a pump finds over, if it is.
+fn add_pumped(
+    lines: &mut Vec<u8, Heap>,
+    origins: &[Name],
+    address: Option<IpAddr>,
+    transfer: Option<Transfer>,
+    effects: &Effects,
+) -> io::Result<()>
+    ensures { OnOk result (lines.new.items ≡ lines.old.items
+        ++ pump_said origins.now address transfer effects.now.message effects.now.noted) }
+{
+    if effects.message.is_some() | (effects.noted != Noted::Nothing) {
+        return Ok(());
+    }
+    match transfer {
+        Some(transfer) => add_over(lines, origins, address, transfer),
+        None => Ok(()),
+    }
+}
+
+/// Appends the line of the transfer that an event ends, if it ends one.
+pub(crate) fn add_transfer(
+    lines: &mut Vec<u8, Heap>,
+    origins: &[Name],
+    addresses: &[Option<IpAddr>],
+    transfers: &[Option<Transfer>],
+    event: Event<'_>,
+    effects: &Effects,
+) -> io::Result<()>
+    ensures { OnOk result (lines.new.items ≡ lines.old.items
+        ++ transfer_said origins.now addresses.now transfers.now (event_shown event.entry) effects.now) }
+{
+    let Event::Pump(number) = event else {
+        return Ok(());
+    };
+    let address = address_on(addresses, number);
+    add_pumped(lines, origins, address, open_on(transfers, number), effects)
+}
+
+/// Whether an event changes no open transfer and ends none.
+#[inline(always)]
+pub(crate) fn is_beside_transfers(
+    transfers: &[Option<Transfer>],
+    event: Event<'_>,
+    effects: &Effects,
+) -> bool
+    ensures still { result ≡ true → (origins : List Labels)
+        → transfers_after origins transfers.now (event_shown event.entry) effects.now ≡ transfers.now }
+    ensures silent { result ≡ true → (origins : List Labels) (addresses : List (Option StatedAddress))
+        → transfer_said origins addresses transfers.now (event_shown event.entry) effects.now ≡ [] }
+{
+    match event {
+        Event::Datagram(_, _) => true,
+        Event::Message(_, _) => effects.message.is_some(),
+        Event::Pump(number) => open_on(transfers, number).is_none(),
+        Event::Connect(_) => true,
+        Event::Flush => true,
+        Event::Checkpoint(_) => true,
+        Event::Closed(_) => true,
+    }
+}
