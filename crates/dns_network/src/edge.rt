@@ -149,14 +149,8 @@ impl<S: Stream + Drop> Edge<S> {
         ensures rested { RestsAsBefore self.old self.new }
     {
         for header in headers {
-            self.send(
-                alloc,
-                network,
-                primary,
-                notes,
-                header.waited.to,
-                &header.octets,
-            );
+            let to = header.waited.to;
+            self.send(alloc, network, primary, notes, to, &header.octets);
         }
     }
 
