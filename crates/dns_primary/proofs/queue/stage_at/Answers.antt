@@ -60,7 +60,7 @@ returns-in-Waits-clause-done g c settings m held holds =
     (subst (λ b. HasVersions keeps (slice_index_or zones place zone) b versions) (sym set_there) is) in
     let reply = c.waiting_reply-reply in
     let all = holds_more keeps zones pending settings waiting m place z zone new a c.in-Waits.rcode versions (judged_in m a place z v) reply.result held there (ends_waiting m a place z there v c.in-Waits.rcode done.0) is
-        reply.ensures.to reply.ensures.address (ap header_of reply.ensures.request ∙ c.requires.header) reply.ensures.rcode reply.ensures.zone (reply.ensures.newest versions held_then) in
+    reply.ensures.to reply.ensures.address (ap header_of reply.ensures.request ∙ c.requires.header) reply.ensures.rcode reply.ensures.zone (reply.ensures.newest versions held_then) in
     let after = subst (λ l. HoldsZones keeps zones (slice_set pending place new) settings l m.connections (judged_in m a place z v).0) (sym c.push.ensures.items) all.1 in
     subst (λ (d : Admission). ((admitted m a d).1 ≡ []) × HoldsZones keeps zones (slice_set pending place new) settings c.push.new.self.items m.connections (admitted m a d).0) (sym (holds.admits opened)) (all.0, after)))
 
