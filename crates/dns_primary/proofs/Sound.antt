@@ -161,12 +161,13 @@ accepted_on z made j room =
     let last = both_true (few && snapshot && entry) (nat_lt (length k.shown + length k.staged) (2 ^ 64 - 1)) room in
     let third = both_true (few && snapshot) entry last.0 in
     let first = both_true few snapshot third.0 in
+    let counted : length (updates_of z) ≡ 0 + length (updates_of z) = omega arith in
     record {
       judged = subst (λ (rs : List Record). verdict (record { apex = z.setting.shape.apex; records = rs }) made.update.answers made.update.authorities ≡ Leaves made.records) (newest_is z) j;
       few = true_le (length made.records) 65536 first.0;
       snapshot = true_le (snapshot_sectors (octets_of made.records)) k.shape.snapshot first.1;
       entry = subst (λ (rs : List Record). entry_between rs made.records ≤ k.shape.journal) (newest_is z) (true_le (entry_between (newest_of k) made.records) k.shape.journal third.1);
-      numbered = subst (λ (n : ℕ). n < 2 ^ 64 - 1) (number_is z) (true_lt (length k.shown + length k.staged) (2 ^ 64 - 1) last.1);
+      numbered = subst (λ (n : ℕ). n < 2 ^ 64 - 1) (number_is z ∙ counted) (true_lt (length k.shown + length k.staged) (2 ^ 64 - 1) last.1);
     }
 
 -- an update that is staged

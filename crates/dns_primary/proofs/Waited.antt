@@ -6,8 +6,8 @@ use Rattle.dns_primary.specs.declared.event.Waiting.{Waiting}
 use Rattle.dns_primary.specs.declared.event.To.{To}
 use Rattle.dns_primary.specs.declared.event.To.TheVariants.{Address, Connection, Nowhere}
 use Rattle.dns_primary.specs.To.{is_nowhere}
-use Rattle.dns_primary.specs.Flush.{Sent, Answered, Replied, out_to, answered_in, answered_of}
-use Rattle.dns_primary.specs.Machine.{Waits}
+use Rattle.dns_primary.specs.Flush.{Sent, Replied, out_to, released, answered_in, answered_of}
+use Rattle.dns_primary.specs.Machine.{ZoneState, Waits}
 use Rattle.dns_primary.specs.Keeps.{IsWaiting}
 
 pub record Next (xs : List Waiting) (ws : List Waits) (i : ℕ) (d : Waiting) : Type 0 where
@@ -44,11 +44,11 @@ out_somewhere (Connection number) octets some = refl
 out_somewhere Nowhere octets some = absurd (cc some)
 
 -- what goes out of those that waited
-pub answered_somewhere : (w : Waits) (rcode : ℕ) → is_nowhere w.to ≡ false → answered_in (Answered w rcode) ≡ w ∷ []
-answered_somewhere w rcode some = ap (λ (b : Bool). if b then [] else w ∷ []) some
+pub answered_somewhere : (zones : List ZoneState) (w : Waits) → is_nowhere w.to ≡ false → answered_in (released zones w) ≡ w ∷ []
+answered_somewhere zones w some = ap (λ (b : Bool). if b then [] else w ∷ []) some
 
-pub answered_nowhere : (w : Waits) (rcode : ℕ) → is_nowhere w.to ≡ true → answered_in (Answered w rcode) ≡ []
-answered_nowhere w rcode none = ap (λ (b : Bool). if b then [] else w ∷ []) none
+pub answered_nowhere : (zones : List ZoneState) (w : Waits) → is_nowhere w.to ≡ true → answered_in (released zones w) ≡ []
+answered_nowhere zones w none = ap (λ (b : Bool). if b then [] else w ∷ []) none
 
 pub answered_append : (sent more : List Sent) → answered_of (sent ++ more) ≡ answered_of sent ++ answered_of more
 answered_append [] more = refl

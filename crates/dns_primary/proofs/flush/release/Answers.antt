@@ -22,12 +22,12 @@ returns-clause-sent g c shown zones w each waits =
 pub returns-then-is_nowhere-clause-told : goal.returns-then-is_nowhere-clause-told
 returns-then-is_nowhere-clause-told g c zones w before waits told =
     let none : is_nowhere w.to ≡ true = ap is_nowhere (sym waits.to) ∙ sym c.is_nowhere.ensures ∙ c.if-is_nowhere.true in
-    subst (λ (l : List Waits). Each2 (λ h w. IsWaiting h.waited w) c.args.headers.now.items l) (sym (ap (λ l. before ++ l) (answered_nowhere w _ none) ∙ append-nil before)) told
+    subst (λ (l : List Waits). Each2 (λ h w. IsWaiting h.waited w) c.args.headers.now.items l) (sym (ap (λ l. before ++ l) (answered_nowhere zones w none) ∙ append-nil before)) told
 
 pub returns-clause-told : goal.returns-clause-told
 returns-clause-told g c zones w before waits told =
     let one : HeaderTo = record { waited = c.args.waiting.now; octets = c.released_octets.result } in
     let some : is_nowhere w.to ≡ false = ap is_nowhere (sym waits.to) ∙ sym c.is_nowhere.ensures ∙ c.if-is_nowhere.false in
     let all : Each2 (λ h w. IsWaiting h.waited w) (c.args.headers.now.items ++ one ∷ []) (before ++ w ∷ []) = push2 (λ h w. IsWaiting h.waited w) c.args.headers.now.items before one w told waits in
-    subst (λ (l : List Waits). Each2 (λ h w. IsWaiting h.waited w) c.push_reserved.new.self.items l) (sym (ap (λ l. before ++ l) (answered_somewhere w _ some)))
+    subst (λ (l : List Waits). Each2 (λ h w. IsWaiting h.waited w) c.push_reserved.new.self.items l) (sym (ap (λ l. before ++ l) (answered_somewhere zones w some)))
     (subst (λ (l : List HeaderTo). Each2 (λ h w. IsWaiting h.waited w) l (before ++ w ∷ [])) (sym c.push_reserved.ensures.items) all)

@@ -52,15 +52,15 @@ returns-in-Waits-clause-done g c settings m held holds =
     (let done = c.in-Waits.ensures.done (kept_of z) v here opened (holds.left opened) holds.is in
     let is = subst (λ y. HasVersions keeps y new (end_of (kept_of z) v).versions) c.index-zones-place.is done.1 in
     let zone_then = c.index-zones-place-in-Waits in
-    let backing_then = c.index-pending-place-in-Waits in
+    let then = c.index-pending-place-in-Waits.result in
     let versions = (end_of (kept_of z) v).versions in
-    let set_there : slice_index_or (slice_set pending place new) place backing_then.result ≡ new = get_or-set_same pending place new backing_then.result c.requires.pending in
-    let held_then : HasVersions keeps zone_then.result backing_then.result versions =
-    subst (λ y. HasVersions keeps y backing_then.result versions) (sym (zone_then.is ∙ get_or_default zones place zone_then.result zone c.requires.inside))
-    (subst (λ b. HasVersions keeps (slice_index_or zones place zone) b versions) (sym (backing_then.is ∙ set_there)) is) in
+    let set_there = get_or-set_same pending place new then c.requires.pending in
+    let held_then : HasVersions keeps zone_then.result (slice_index_or (slice_set pending place new) place then) versions =
+    subst (λ y. HasVersions keeps y (slice_index_or (slice_set pending place new) place then) versions) (sym (zone_then.is ∙ get_or_default zones place zone_then.result zone c.requires.inside))
+    (subst (λ b. HasVersions keeps (slice_index_or zones place zone) b versions) (sym set_there) is) in
     let reply = c.waiting_reply-reply in
     let all = holds_more keeps zones pending settings waiting m place z zone new a c.in-Waits.rcode versions (judged_in m a place z v) reply.result held there (ends_waiting m a place z there v c.in-Waits.rcode done.0) is
-        reply.ensures.to reply.ensures.address (ap header_of reply.ensures.request ∙ c.requires.header) reply.ensures.rcode reply.ensures.zone (reply.ensures.newest versions held_then) in
+    reply.ensures.to reply.ensures.address (ap header_of reply.ensures.request ∙ c.requires.header) reply.ensures.rcode reply.ensures.zone (reply.ensures.newest versions held_then) in
     let after = subst (λ l. HoldsZones keeps zones (slice_set pending place new) settings l m.connections (judged_in m a place z v).0) (sym c.push.ensures.items) all.1 in
     subst (λ (d : Admission). ((admitted m a d).1 ≡ []) × HoldsZones keeps zones (slice_set pending place new) settings c.push.new.self.items m.connections (admitted m a d).0) (sym (holds.admits opened)) (all.0, after)))
 
