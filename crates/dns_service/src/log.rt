@@ -1,5 +1,5 @@
 //! What a server reports of its turns: lines, of which those that peers can cause are at most 20 a second.
-ghost use Rattle.std.specs.Prelude.{◌≡◌, ◌++◌, Bool, false, true, List, [], IfSome, OnOk, IfOk};
+ghost use Rattle.std.specs.Prelude.{◌≡◌, ◌++◌, Bool, false, true, List, [], Option, IfSome, OnOk, IfOk};
 ghost use Rattle.std.specs.Io.KnownBytes.{Appends};
 ghost use Rattle.dns_names.specs.Name.{Labels};
 ghost use Rattle.dns_primary.specs.Steps.{event_shown};
@@ -7,6 +7,8 @@ ghost use Rattle.dns_network.specs.Notes.{OfEvent, OfNote};
 ghost use Rattle.dns_service.specs.Log.{IsAdded, IsLogged, IsSaid, Known, addresses_after, closed_line};
 ghost use Rattle.dns_service.specs.Log.{count_line, logged, observation_said, opened_line, said_of, summary};
 ghost use Rattle.dns_service.specs.Log.{transfers_noted};
+ghost use Rattle.dns_service.specs.declared.transfer_lines.Transfer.{Transfer as StatedTransfer};
+ghost use Rattle.std.specs.declared.net.ip_addr.IpAddr.{IpAddr as StatedAddress};
 ghost use Rattle.dns_service.specs.Verdict.{by_verdict, line_verdict, none_in};
 
 use crate::slots::set;
@@ -271,6 +273,46 @@ impl<E: Write> Log<'_, E> {
         keep_transfers(alloc, origins, self.transfers, event, effects)
     }
 
+    /// Takes what is to be reported of an event, or notes that it can't.
+    fn take_event(&mut self, event: Event<'_>, effects: &Effects)
+        ensures same_reference { self.new.err.ghost_name ≡ self.old.err.ghost_name }
+        ensures text { E.contents self.new.err.now ≡ E.contents self.old.err.now }
+        ensures origins { self.new.origins.now ≡ self.old.origins.now }
+        ensures quiet { self.new.is_quiet ≡ self.old.is_quiet }
+        ensures addresses { self.new.addresses.now.items ≡ self.old.addresses.now.items }
+        ensures said { self.new.has_failed ≡ false → (self.old.has_failed ≡ false)
+            × (let said = observation_said self.old.origins.now
+            (record {
+              counts = self.old.counts;
+              addresses = self.old.addresses.now.items;
+              transfers = self.old.transfers.now.items;
+            }) (event_shown event.entry) effects.now in
+            (self.new.lines.now.items ≡ self.old.lines.now.items ++ said.text)
+            × (self.new.counts ≡ said.known.counts)
+            × (self.new.transfers.now.items ≡ said.known.transfers)) }
+    {
+        if let Err(_) = self.add_report(event, effects) {
+            self.has_failed = true;
+        }
+    }
+
+    /// Writes what is still to be written, or notes that it can't.
+    fn settle(&mut self)
+        ensures same_reference { self.new.err.ghost_name ≡ self.old.err.ghost_name }
+        ensures origins { self.new.origins.now ≡ self.old.origins.now }
+        ensures quiet { self.new.is_quiet ≡ self.old.is_quiet }
+        ensures counts { self.new.counts ≡ self.old.counts }
+        ensures addresses { self.new.addresses.now.items ≡ self.old.addresses.now.items }
+        ensures transfers { self.new.transfers.now.items ≡ self.old.transfers.now.items }
+        ensures none { self.new.lines.now.items ≡ [] }
+        ensures written { self.new.has_failed ≡ false → (self.old.has_failed ≡ false)
+            × Appends (E.contents self.old.err.now) (E.contents self.new.err.now) self.old.lines.now.items }
+    {
+        if let Err(_) = self.write_out() {
+            self.has_failed = true;
+        }
+    }
+
     /// Takes what is to be reported of an event, and writes all lines out if updates are answered.
     #[inline(never)]
     fn report(&mut self, event: Event<'_>, effects: &Effects)
@@ -290,15 +332,11 @@ impl<E: Write> Log<'_, E> {
             self.new.addresses.now.items self.new.transfers.now.items) }
         ensures written { (effects.now.headers.items ≡ [] → ⊥) → self.new.lines.now.items ≡ [] }
     {
-        if let Err(_) = self.add_report(event, effects) {
-            self.has_failed = true;
-        }
+        self.take_event(event, effects);
         if effects.headers.is_empty() {
             return;
         }
-        if let Err(_) = self.write_out() {
-            self.has_failed = true;
-        }
+        self.settle();
     }
 }
 
@@ -306,10 +344,11 @@ impl<E: Write> Log<'_, E> {
     /// Whether nothing is to be said of an event and its effects, nor to be known of them.
     #[inline(always)]
     fn is_silent(&self, event: Event<'_>, effects: &Effects) -> bool
-        ensures { result ≡ true → (k : Known) → k.transfers ≡ self.now.transfers.now.items
+        ensures said { result ≡ true → (k : Known) → k.transfers ≡ self.now.transfers.now.items
             → (origins : List Labels)
             → observation_said origins k (event_shown event.entry) effects.now
             ≡ record { text = []; known = k } }
+        ensures unanswered { result ≡ true → effects.now.headers.items ≡ [] }
     {
         have_no_line(effects) && is_beside_transfers(self.transfers, event, effects)
     }
@@ -318,8 +357,12 @@ impl<E: Write> Log<'_, E> {
 /// Whether nothing is to be said of a note: a turn begins in the second of the turn before.
 #[inline]
 fn is_silent(counts: Counts, note: Note) -> bool
-    ensures { result ≡ true
+    ensures said { result ≡ true
         → (quiet : Bool) (origins : List Labels) → said_of quiet origins counts note ≡ ([], counts) }
+    ensures addresses { result ≡ true
+        → (addresses : List (Option StatedAddress)) → addresses_after note addresses ≡ addresses }
+    ensures transfers { result ≡ true
+        → (transfers : List (Option StatedTransfer)) → transfers_noted note transfers ≡ transfers }
 {
     match note {
         Note::Begins(now) => now == counts.second,
@@ -366,7 +409,10 @@ impl<E: Write> Observer for Log<'_, E> {
     /// An event of which nothing is said, as a query that is answered, costs some comparisons.
     #[inline]
     fn observe(&mut self, event: Event<'_>, effects: &Effects) {
-        if self.is_quiet || self.is_silent(event, effects) {
+        if self.is_quiet {
+            return;
+        }
+        if self.is_silent(event, effects) {
             return;
         }
         self.report(event, effects);

@@ -274,9 +274,10 @@ fn is_answer(reply: &Option<Reply>) -> bool
 /// Whether effects have no line, whatever the event: no update is answered, and nothing refused.
 #[inline(always)]
 pub(crate) fn have_no_line(effects: &Effects) -> bool
-    ensures { result ≡ true
+    ensures said { result ≡ true
         → (origins : List Labels) (addresses : List (Option StatedAddress)) (counts : StatedCounts)
         (event : StatedEvent) → event_said origins addresses counts event effects.now ≡ ([], counts) }
+    ensures unanswered { result ≡ true → effects.now.headers.items ≡ [] }
 {
     effects.headers.is_empty() && is_answer(&effects.message)
 }

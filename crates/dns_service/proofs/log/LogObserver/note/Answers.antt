@@ -20,8 +20,7 @@ returns g c =
               record {
                 text = subst (λ (x : Option (List ℕ)). Appends (append_known (text old.err.now) old.lines.now.items) (append_known x new.lines.now.items) said.0) (sym c.take.ensures.text)
                     (said_more (text old.err.now) old.lines.now.items said.0 new.lines.now.items took.1.lines_are);
-                counts = took.1.counts_are;
-                addresses = c.take.ensures.addresses;
+                known = λ i. record { counts = took.1.counts_are i; addresses = c.take.ensures.addresses i; transfers = c.take.ensures.transfers i };
               },
             );
         written = λ e. absurd (c.in_default.not-Ends e);
