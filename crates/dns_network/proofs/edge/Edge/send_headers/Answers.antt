@@ -1,6 +1,8 @@
 use Rattle.std.proofs.Common.{[], refl}
 use Rattle.std.specs.declared.net.ip_addr.IpAddr.TheVariants.{V4}
+use Rattle.dns_wire.specs.declared.codes.Rcode.TheVariants.{NoError}
 use Rattle.dns_primary.specs.declared.event.To.TheVariants.{Address}
+use Rattle.dns_primary.specs.declared.event.Waiting.{Waiting}
 use Rattle.dns_primary.specs.declared.event.HeaderTo.{HeaderTo}
 use Rattle.dns_primary.specs.Keeps.{header_out}
 use Rattle.dns_network.specs.Delivery.{served}
@@ -12,7 +14,8 @@ loop-header-init g c = (([], refl, refl), λ second rested. rested)
 
 pub loop-header-preserved : goal.loop-header-preserved
 loop-header-preserved g c =
-    let none : HeaderTo = record { to = Address (record { address = V4 (record { octets = [] }); port = 0; local = 0 }); octets = [] } in
+    let nobody : Waiting = record { to = Address (record { address = V4 (record { octets = [] }); port = 0; local = 0 }); address = V4 (record { octets = [] }); request = []; rcode = NoError; zone = 0; version = 0; serial = 0 } in
+    let none : HeaderTo = record { waited = nobody; octets = [] } in
     let sent = next_sent g.N.Network g.L.Observer (λ h. header_out h) c.args.headers.now c.loop-header.header-index none
     (served c.args.primary.now c.args.self.now c.args.network.now c.args.notes.now)
     (served c.loop-header.primary c.loop-header.self c.loop-header.network c.loop-header.notes)
