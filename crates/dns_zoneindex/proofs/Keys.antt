@@ -25,10 +25,10 @@ leading_below (suc n) [] o = omega (arith, leading_none n, leading_below n [] o,
 leading_below (suc n) (x ∷ xs) o =
     omega (arith, mul-add-lt x (256 ^ n) (leading n xs) 256 (o 0) (leading_below n xs (behind x xs o)), pow-suc 256 n)
 
-first_decides : (x y : ℕ) (xs ys : List ℕ) → x < y → label_cmp (x ∷ xs) (y ∷ ys) ≡ Less
+pub first_decides : (x y : ℕ) (xs ys : List ℕ) → x < y → label_cmp (x ∷ xs) (y ∷ ys) ≡ Less
 first_decides x y xs ys h = ap (λ o. ordering_then o (label_cmp xs ys)) (sym (nat_cmp_is x y Less h))
 
-first_equal : (x y : ℕ) (xs ys : List ℕ) → x ≡ y → label_cmp (x ∷ xs) (y ∷ ys) ≡ label_cmp xs ys
+pub first_equal : (x y : ℕ) (xs ys : List ℕ) → x ≡ y → label_cmp (x ∷ xs) (y ∷ ys) ≡ label_cmp xs ys
 first_equal x y xs ys h = ap (λ o. ordering_then o (label_cmp xs ys)) (sym (nat_cmp_is x y Equal h))
 
 leading_order : (n : ℕ) (a b : List ℕ) → AreOctets a → AreOctets b → leading n a < leading n b → label_cmp a b ≡ Less
@@ -50,7 +50,7 @@ leading_order (suc n) (x ∷ xs) (y ∷ ys) oa ob h =
 no_more : (n x y : ℕ) (xs ys : List ℕ) → AreOctets xs → x < y → leading n xs + x * 256 ^ n < leading n ys + y * 256 ^ n
 no_more n x y xs ys ox l = omega (arith, mul-add-lt x (256 ^ n) (leading n xs) y l (leading_below n xs ox), mul_comm y (256 ^ n))
 
-one_more : (m n : ℕ) → nat_cmp m n ≡ nat_cmp (suc m) (suc n)
+pub one_more : (m n : ℕ) → nat_cmp m n ≡ nat_cmp (suc m) (suc n)
 one_more m n =
     elim (cases_order m n) [
       | inl e ↦ sym (nat_cmp_is m n Equal e) ∙ nat_cmp_is (suc m) (suc n) Equal (ap suc e)

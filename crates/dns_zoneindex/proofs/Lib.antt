@@ -2,6 +2,7 @@ pub mod Beside
 pub mod Counts
 pub mod Down
 pub mod Exists
+pub mod Fronts
 pub mod Growth
 pub mod Halves
 pub mod Keeping

@@ -149,7 +149,7 @@ full_around slots p s e f =
     (full_front (take p slots) (s ∷ drop (suc p) slots) f, back.0, back.1)
 
 -- keys that differ decide
-pub key_decides : (key own : ℕ) (q : List ℕ) (s : List Child) → IsKey key q → IsFirstKey own s → (key ≡ own → ⊥) → nat_lt key own ≡ is_before q s
+pub key_decides : (key own : ℕ) (q : List ℕ) (s : List Child) → IsKey key q → IsFirstKey 0 own s → (key ≡ own → ⊥) → nat_lt key own ≡ is_before q s
 key_decides key own q [] k f n = absurd f
 key_decides key own q (c ∷ s) k f n =
     elim (cases_order key own) [

@@ -1,5 +1,6 @@
 -- What the children of a name are seen as.
-use Rattle.std.specs.Prelude.{Bool, true, false, ◌≡◌, ℕ, ◌<◌, List, [], ◌∷◌, ◌++◌, length, map, get_or}
+use Rattle.std.specs.Prelude.{Bool, true, false, ◌≡◌, ℕ, ◌<◌, List, [], ◌∷◌, ◌++◌, length, map, take, drop, get_or}
+use Rattle.std.specs.Prelude.{Option, Some, None}
 use Rattle.std.specs.Ordering.{nat_cmp}
 use Rattle.std.specs.Cmp.Lexicographic.{slice_cmp}
 use Rattle.std.specs.declared.cmp.Ordering.{Ordering}
@@ -50,26 +51,65 @@ abbrev pub AllFull : List (List Child) → Type 0
 AllFull [] = Unit {0}
 AllFull (s ∷ slots) = (0 < length s) × AllFull slots
 
--- The key is the first child's.
-abbrev pub IsFirstKey : ℕ → List Child → Type 0
-IsFirstKey key [] = ⊥
-IsFirstKey key (c ∷ rest) = IsKey key c.label
+-- The key is that of the first child's label without so many octets.
+abbrev pub IsFirstKey : ℕ → ℕ → List Child → Type 0
+IsFirstKey skip key [] = ⊥
+IsFirstKey skip key (c ∷ rest) = IsKey key (drop skip c.label)
 
 -- Each key is that of the first child of its slot, as far as there are keys.
-abbrev pub AreKeys : List ℕ → List (List Child) → Type 0
-AreKeys [] slots = Unit {0}
-AreKeys (k ∷ keys) [] = Unit {0}
-AreKeys (k ∷ keys) (s ∷ slots) = IsFirstKey k s × AreKeys keys slots
+abbrev pub AreKeys : ℕ → List ℕ → List (List Child) → Type 0
+AreKeys skip [] slots = Unit {0}
+AreKeys skip (k ∷ keys) [] = Unit {0}
+AreKeys skip (k ∷ keys) (s ∷ slots) = IsFirstKey skip k s × AreKeys skip keys slots
 
--- What holds of the slots of a group, of the number of their records, and of their keys.
-abbrev pub IsGroup : ℕ → List (List Child) → List ℕ → Type 0
-IsGroup count slots keys =
+-- The label of the first child.
+abbrev pub first_label : List Child → List ℕ
+first_label [] = []
+first_label (c ∷ rest) = c.label
+
+-- So many octets at the beginning of the first child's label are those of another label.
+abbrev pub BeginAlike : ℕ → List ℕ → List Child → Type 0
+BeginAlike skip label s = take skip label ≡ take skip (first_label s)
+
+abbrev pub AllBegin : ℕ → List ℕ → List (List Child) → Type 0
+AllBegin skip label [] = Unit {0}
+AllBegin skip label (s ∷ slots) = BeginAlike skip label s × AllBegin skip label slots
+
+-- The first labels of all slots but the first one begin alike.
+abbrev pub BeginAsSecond : ℕ → List (List Child) → Type 0
+BeginAsSecond skip [] = Unit {0}
+BeginAsSecond skip (s ∷ []) = Unit {0}
+BeginAsSecond skip (s ∷ t ∷ slots) = AllBegin skip (first_label t) (t ∷ slots)
+
+-- The labels of all children begin alike.
+abbrev pub IsWhole : ℕ → List Child → Type 0
+IsWhole skip cs = AllChildren (λ c. take skip c.label ≡ take skip (first_label cs)) cs
+
+-- How the labels in the slots of a group begin.
+abbrev pub IsBeginning : List (List Child) → ℕ → Bool → Type 0
+IsBeginning slots skip whole = BeginAsSecond skip slots × (whole ≡ true → IsWhole skip (joined slots))
+
+-- What holds of the slots of a group, of the number of their records, of their keys, and of how the labels
+-- begin.
+abbrev pub IsGroup : ℕ → List (List Child) → List ℕ → ℕ → Bool → Type 0
+IsGroup count slots keys skip whole =
     AreChildren (joined slots) × AllFull slots × (1 < length slots) × (count ≡ length (flat (joined slots)))
-    × AreKeys keys slots
+    × AreKeys skip keys slots × IsBeginning slots skip whole
 
 -- What holds of the children of a slot, the number of their records, and the key of the first.
 abbrev pub IsSlot : ℕ → ℕ → List Child → Type 0
-IsSlot count key children = (count ≡ length (flat children)) × IsFirstKey key children
+IsSlot count key children = (count ≡ length (flat children)) × IsFirstKey 0 key children
+
+abbrev pub last_of : List Child → Option Child
+last_of [] = None
+last_of (c ∷ []) = Some c
+last_of (c ∷ d ∷ rest) = last_of (d ∷ rest)
+
+-- So many octets at the beginnings of two labels are the same; none, if there are no two.
+abbrev pub AreAlike : ℕ → Option Child → Option Child → Type 0
+AreAlike skip None b = skip ≡ 0
+AreAlike skip (Some a) None = skip ≡ 0
+AreAlike skip (Some a) (Some b) = take skip a.label ≡ take skip b.label
 
 abbrev pub node_of : List ℕ → List Record → Children → Child
 node_of label records children = record { label = label; own = own_of records children }

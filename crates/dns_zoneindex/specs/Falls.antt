@@ -1,6 +1,6 @@
 -- The measure falls.
 use Rattle.std.proofs.Common.{◌≡◌, ℕ, suc, ◌+◌, ◌<◌, ◌≤◌, List, [], ◌∷◌, ◌++◌, length, map, refl, arith}
-use Rattle.std.specs.Prelude.{max}
+use Rattle.std.specs.Prelude.{Bool, max}
 use Rattle.dns_records.specs.Record.{Record}
 use Rattle.dns_zoneindex.specs.Entries.{PathRecord, Child, here, pushed, flat}
 use Rattle.dns_zoneindex.specs.Size.{weight, children_size, slot_size, node_size}
@@ -64,11 +64,12 @@ most_of_all : (slots : List (List Child))
 most_of_all [] = omega arith
 most_of_all (s ∷ slots) = omega (arith, most_of_all slots, sizes-append s (joined slots))
 
-pub group_falls : (count : ℕ) (slots : List (List Child)) (keys : List ℕ) → IsGroup count slots keys
+pub group_falls : (count : ℕ) (slots : List (List Child)) (keys : List ℕ) (skip : ℕ) (whole : Bool)
+    → IsGroup count slots keys skip whole
     → max (most (λ s. slot_size s + 1) slots) 0 ≤ children_size (joined slots)
-group_falls count [] keys h = absurd (omega (arith, h.2))
-group_falls count (s ∷ []) keys h = absurd (omega (arith, h.2))
-group_falls count (s ∷ t ∷ slots) keys h =
+group_falls count [] keys skip whole h = absurd (omega (arith, h.2))
+group_falls count (s ∷ []) keys skip whole h = absurd (omega (arith, h.2))
+group_falls count (s ∷ t ∷ slots) keys skip whole h =
     omega (
       arith,
       most_of_all (t ∷ slots),

@@ -4,8 +4,8 @@ pub mod Children
 pub mod Size
 pub mod Falls
 pub mod Keys
-pub mod Slots
 pub mod Assoc
+pub mod Slots
 pub mod Setting
 pub mod Tree
 pub mod Owned

@@ -1,7 +1,9 @@
 -- Where the child of a label is, among slots of children.
-use Rattle.std.specs.Prelude.{◌≡◌, ℕ, suc, Bool, false, ◌<◌, List, [], ◌∷◌, length, take, drop}
+use Rattle.std.specs.Prelude.{◌≡◌, ℕ, suc, Bool, false, ◌<◌, List, [], ◌∷◌, length, take, drop, Some}
+use Rattle.std.specs.List.{slice_get}
 use Rattle.std.specs.Ordering.{is_lt}
 use Rattle.std.specs.declared.cmp.Ordering.TheVariants.{Less, Greater}
+use Rattle.dns_zoneindex.specs.Assoc.{child_of}
 use Rattle.dns_zoneindex.specs.Entries.{Child}
 use Rattle.dns_zoneindex.specs.Children.{label_cmp, joined, AllChildren}
 
@@ -16,3 +18,8 @@ pub record IsPlace (label : List ℕ) (slots : List (List Child)) (place : ℕ) 
   pub there : place < length slots
   pub ahead : AllChildren (λ c. label_cmp label c.label ≡ Greater) (joined (take place slots))
   pub behind : AllChildren (λ c. label_cmp label c.label ≡ Less) (joined (drop (suc place) slots))
+
+-- The child of the label is among those of the slot at this index, if there is one.
+pub record IsFoundAt (label : List ℕ) (slots : List (List Child)) (place : ℕ) : Type 0 where
+  pub there : place < length slots
+  pub found : (s : List Child) → slice_get slots place ≡ Some s → child_of label s ≡ child_of label (joined slots)

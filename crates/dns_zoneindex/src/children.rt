@@ -3,13 +3,13 @@
 ghost use Rattle.std.specs.Prelude.{◌≡◌, ◌++◌, ◌∷◌, [], ◌<◌, length, map, IfOk, IfSome};
 ghost use Rattle.std.specs.Option.{option_copied};
 ghost use Rattle.std.specs.List.{slice_get};
-ghost use Rattle.dns_zoneindex.specs.Children.{items, joined, AreChildren, AllFull, MatchEmpty};
+ghost use Rattle.dns_zoneindex.specs.Children.{items, joined, last_of, AreChildren, AllFull, MatchEmpty};
 ghost use Rattle.dns_zoneindex.specs.Entries.{pushed, flat, own_at};
 ghost use Rattle.dns_zoneindex.specs.Setting.{keep, before, behind};
 ghost use Rattle.dns_zoneindex.specs.Keys.{IsKey};
 ghost use Rattle.dns_zoneindex.specs.Assoc.{child_of, put_child, without_child};
 
-use crate::group::{children_in, gathered, one, place_of, replaced, two};
+use crate::group::{children_in, gathered, one, place_of, place_to_find, replaced, two};
 use crate::key::key_of;
 use crate::node::{Children, Group, Node, Slot};
 use dns_memory::Heap;
@@ -59,6 +59,20 @@ impl Children {
         }
     }
 
+    /// The last child.
+    pub(crate) fn last(&self) -> Option<&Node>
+        ensures { option_copied result ≡ last_of (items self.now) }
+    {
+        match self {
+            Children::Empty => None,
+            Children::One(node) => Some(node),
+            Children::Many(group) => {
+                let Group { slots, .. } = &**group;
+                slots.last()?.children.last()
+            }
+        }
+    }
+
     /// The child of a label. An only child is identified by its label alone.
     #[inline(always)]
     pub(crate) fn find(&self, label: &[u8]) -> Option<&Node>
@@ -93,8 +107,15 @@ impl Children {
                     return None;
                 }
                 Children::Many(group) => {
-                    let Group { keys, slots, .. } = &**group;
-                    here = &slots[place_of(keys, slots, key, label)].children;
+                    let Group {
+                        keys,
+                        slots,
+                        skip,
+                        whole,
+                        ..
+                    } = &**group;
+                    let place = place_to_find(keys, slots, *skip, *whole, key, label);
+                    here = &slots[place].children;
                 }
             }
         }
@@ -122,8 +143,13 @@ impl Children {
             Children::Empty => one(alloc, Slot::one(node)),
             Children::One(own) => beside(alloc, own, node),
             Children::Many(group) => {
-                let Group { keys, slots, .. } = &**group;
-                let place = place_of(keys, slots, node.key(), node.label());
+                let Group {
+                    keys,
+                    slots,
+                    skip,
+                    ..
+                } = &**group;
+                let place = place_of(keys, slots, *skip, node.key(), node.label());
                 let come = slots[place].children.put(alloc, node)?;
                 gathered(alloc, replaced(alloc, slots, place, come)?)
             }
@@ -144,8 +170,13 @@ impl Children {
                 one(alloc, Slot::one(own.share()?))
             }
             Children::Many(group) => {
-                let Group { keys, slots, .. } = &**group;
-                let place = place_of(keys, slots, key_of(label), label);
+                let Group {
+                    keys,
+                    slots,
+                    skip,
+                    ..
+                } = &**group;
+                let place = place_of(keys, slots, *skip, key_of(label), label);
                 let rest = slots[place].children.without(alloc, label)?;
                 gathered(alloc, replaced(alloc, slots, place, rest)?)
             }

@@ -1,13 +1,17 @@
 //! Slots of neighbouring children, and the groups that they make: a tree of which each group has few slots,
 //! so that few of them are looked at where a child is looked for.
-ghost use Rattle.std.specs.Prelude.{◌≡◌, ◌++◌, ◌∷◌, [], ◌<◌, suc, take, drop, length, IfOk, OnOk};
-ghost use Rattle.dns_zoneindex.specs.Children.{items, joined, AreChildren, AllFull, AreKeys};
+ghost use Rattle.std.specs.Prelude.{◌≡◌, ◌++◌, ◌∷◌, [], ◌<◌, ℕ, true, suc, take, drop, length, IfOk, OnOk};
+ghost use Rattle.std.specs.Option.{option_copied};
+ghost use Rattle.std.specs.declared.cmp.Ordering.TheVariants.{Greater};
+ghost use Rattle.dns_zoneindex.specs.Children.{items, joined, label_cmp, AllChildren, AreChildren, AllFull};
+ghost use Rattle.dns_zoneindex.specs.Children.{AreKeys, IsFirstKey, BeginAlike, AllBegin, BeginAsSecond};
+ghost use Rattle.dns_zoneindex.specs.Children.{AreAlike, IsBeginning};
 ghost use Rattle.dns_zoneindex.specs.Entries.{flat};
 ghost use Rattle.dns_zoneindex.specs.Keys.{IsKey};
-ghost use Rattle.dns_zoneindex.specs.Slots.{is_before, IsPlace};
+ghost use Rattle.dns_zoneindex.specs.Slots.{is_before, IsFoundAt, IsPlace};
 
 use crate::count::sum;
-use crate::key::order;
+use crate::key::{begin_alike, key_after, order, shared};
 use crate::node::{Children, Group, Node, Slot};
 use dns_memory::Heap;
 use std::alloc::AllocError;
@@ -42,8 +46,16 @@ impl Slot {
     {
         let key = slots[0].key;
         let count = count_of(&slots)?;
-        let keys = keys_of(&slots);
-        let group = Rc::new(alloc, Group { keys, slots, count })?;
+        let (skip, whole) = beginning_of(&slots);
+        let keys = keys_of(skip, &slots);
+        let group = Group {
+            keys,
+            slots,
+            count,
+            skip,
+            whole,
+        };
+        let group = Rc::new(alloc, group)?;
         Ok(Slot {
             key,
             count,
@@ -81,8 +93,32 @@ impl Slot {
             return key < *own;
         }
         match children.first() {
-            Some(node) => order(label, node).is_lt(),
+            Some(node) => order(0, label, node).is_lt(),
             None => false,
+        }
+    }
+
+    /// The same of a label that begins like the first one's, where the keys after that are the same.
+    fn is_behind_alike(&self, skip: u8, label: &[u8]) -> bool
+        requires { (key : ℕ) × IsKey key (drop skip label.now) × IsFirstKey skip key self.now }
+        ensures { BeginAlike skip label.now self.now → result ≡ is_before label.now self.now }
+    {
+        match self.children.first() {
+            Some(node) => order(skip, label, node).is_lt(),
+            None => false,
+        }
+    }
+
+    /// The key of the first label without so many octets.
+    fn key_after(&self, skip: u8) -> u64
+        ensures { IsFirstKey skip result self.now }
+    {
+        if skip == 0 {
+            return self.key;
+        }
+        match self.children.first() {
+            Some(node) => key_after(skip, node.label()),
+            None => 0,
         }
     }
 }
@@ -98,17 +134,49 @@ fn count_of(slots: &[Slot]) -> Result<usize, AllocError>
 }
 
 /// The keys of slots side by side, of as many as a group has.
-fn keys_of(slots: &[Slot]) -> [u64; MOST]
-    ensures { AreKeys result slots.now }
+fn keys_of(skip: u8, slots: &[Slot]) -> [u64; MOST]
+    ensures { AreKeys skip result slots.now }
 {
     let mut keys = [u64::MAX; MOST];
     'keys: for place in 0..MOST {
         let Some(slot) = slots.get(place) else {
             return keys;
         };
-        keys[place] = slot.key;
+        keys[place] = slot.key_after(skip);
     }
     keys
+}
+
+/// How many octets the labels of two nodes have alike at their beginnings; none, if there are no two.
+fn shared_by(a: Option<&Node>, b: Option<&Node>) -> u8
+    ensures { AreAlike result (option_copied a.entry) (option_copied b.entry) }
+{
+    match (a, b) {
+        (Some(first), Some(last)) => shared(first.label(), last.label()),
+        _ => 0,
+    }
+}
+
+/// How many octets a group of the slots skips, and whether the labels of all children begin with them. None
+/// are skipped where the keys of whole labels differ.
+fn beginning_of(slots: &[Slot]) -> (u8, bool)
+    requires more { 1 < length slots.now }
+    requires full { AllFull slots.now }
+    requires kept { AreChildren (joined slots.now) }
+    ensures { IsBeginning slots.now result.0 result.1 }
+{
+    let second = &slots[1];
+    let last = &slots[slots.len() - 1];
+    if second.key != last.key {
+        return (0, true);
+    }
+    let first = &slots[0];
+    let all = shared_by(first.children.first(), last.children.last());
+    if all >= 8 {
+        return (all, true);
+    }
+    let later = shared_by(second.children.first(), last.children.first());
+    (later, false)
 }
 
 /// The last index whose key is at most this one, or the first index where there is none. The keys rise. So
@@ -147,34 +215,137 @@ fn place_by_halves(slots: &[Slot], key: u64, label: &[u8]) -> usize
     place
 }
 
-/// The index of the slot that holds the child of a label, or would hold it. The keys determine it, where the
-/// first octets of labels differ.
+/// Whether a label sorts after the first of the slot at an index, if it begins like that. The keys determine
+/// it, where they differ.
 #[inline(always)]
-pub(crate) fn place_of(keys: &[u64; MOST], slots: &[Slot], key: u64, label: &[u8]) -> usize
-    requires keys { AreKeys keys.now slots.now }
+fn is_past(
+    keys: &[u64; MOST],
+    slots: &[Slot],
+    place: usize,
+    skip: u8,
+    key: u64,
+    label: &[u8],
+) -> bool
+    requires keys { AreKeys skip keys.now slots.now }
+    requires key { IsKey key (drop skip label.now) }
+    requires there { place < length slots.now }
+    requires full { AllFull slots.now }
+    requires kept { AreChildren (joined slots.now) }
+    ensures { result ≡ true → AllBegin skip label.now (drop 1 slots.now)
+        → AllChildren (λ c. label_cmp label.now c.label ≡ Greater) (joined (take place slots.now)) }
+{
+    if place == 0 {
+        return true;
+    }
+    let Some(own) = keys.get(place) else {
+        return false;
+    };
+    if *own != key {
+        return *own < key;
+    }
+    !slots[place].is_behind_alike(skip, label)
+}
+
+/// The index of the slot that holds the child of a label, or would hold it, if the label begins like those
+/// of the slots. The keys determine it, where the labels differ early after that.
+#[inline(always)]
+fn place_by_keys(
+    keys: &[u64; MOST],
+    slots: &[Slot],
+    skip: u8,
+    key: u64,
+    whole_key: u64,
+    label: &[u8],
+) -> usize
+    requires keys { AreKeys skip keys.now slots.now }
+    requires key { IsKey key (drop skip label.now) }
+    requires whole_key { IsKey whole_key label.now }
+    requires some { 0 < length slots.now }
+    requires full { AllFull slots.now }
+    requires kept { AreChildren (joined slots.now) }
+    ensures there { result < length slots.now }
+    ensures place { AllBegin skip label.now (drop 1 slots.now) → IsPlace label.now slots.now result }
+{
+    let place = last_up_to(keys, key);
+    if place < slots.len() && is_past(keys, slots, place, skip, key, label) {
+        let next = place + 1;
+        if next == slots.len() {
+            return place;
+        }
+        if let Some(behind) = keys.get(next) {
+            if key < *behind {
+                return place;
+            }
+        }
+    }
+    place_by_halves(slots, whole_key, label)
+}
+
+/// Whether a label begins like those of the slots after the first one.
+fn begins_as(slots: &[Slot], skip: u8, label: &[u8]) -> bool
+    requires { BeginAsSecond skip slots.now }
+    ensures { result ≡ true → AllBegin skip label.now (drop 1 slots.now) }
+{
+    match slots.get(1) {
+        Some(slot) => match slot.children.first() {
+            Some(node) => begin_alike(label, node.label(), skip),
+            None => false,
+        },
+        None => false,
+    }
+}
+
+/// The index of the slot that holds the child of a label, or would hold it.
+pub(crate) fn place_of(
+    keys: &[u64; MOST],
+    slots: &[Slot],
+    skip: u8,
+    key: u64,
+    label: &[u8],
+) -> usize
+    requires keys { AreKeys skip keys.now slots.now }
+    requires begin { BeginAsSecond skip slots.now }
     requires key { IsKey key label.now }
     requires some { 0 < length slots.now }
     requires full { AllFull slots.now }
     requires kept { AreChildren (joined slots.now) }
     ensures { IsPlace label.now slots.now result }
 {
-    let place = last_up_to(keys, key);
-    if place < slots.len() {
-        if !slots[place].is_behind(key, label) {
-            let next = place + 1;
-            if next == slots.len() {
-                return place;
-            }
-            if let Some(behind) = keys.get(next) {
-                if key < *behind {
-                    return place;
-                }
-            }
-        } else if place == 0 {
-            return place;
-        }
+    if skip == 0 {
+        return place_by_keys(keys, slots, 0, key, key, label);
+    }
+    if begins_as(slots, skip, label) {
+        return place_by_keys(keys, slots, skip, key_after(skip, label), key, label);
     }
     place_by_halves(slots, key, label)
+}
+
+/// The index of the slot that holds the child of a label, if there is one. Where the labels of all children
+/// begin alike, it isn't tested whether this one does: if not, it is found in no slot.
+#[inline(always)]
+pub(crate) fn place_to_find(
+    keys: &[u64; MOST],
+    slots: &[Slot],
+    skip: u8,
+    whole: bool,
+    key: u64,
+    label: &[u8],
+) -> usize
+    requires keys { AreKeys skip keys.now slots.now }
+    requires begin { IsBeginning slots.now skip whole }
+    requires key { IsKey key label.now }
+    requires some { 0 < length slots.now }
+    requires full { AllFull slots.now }
+    requires kept { AreChildren (joined slots.now) }
+    ensures { IsFoundAt label.now slots.now result }
+{
+    if skip == 0 {
+        return place_by_keys(keys, slots, 0, key, key, label);
+    }
+    if whole {
+        return place_by_keys(keys, slots, skip, key_after(skip, label), key, label);
+    }
+    place_of(keys, slots, skip, key, label)
 }
 
 /// Puts slots after others, shared.

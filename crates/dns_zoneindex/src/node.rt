@@ -37,11 +37,16 @@ pub(crate) enum Children {
 /// Neighbouring children in slots, of which none is empty. There are two at least.
 #[cycle(tree)]
 pub(crate) struct Group {
-    /// The keys of the slots, side by side.
+    /// The keys of the slots, side by side: of their first labels without the octets that are skipped.
     pub(crate) keys: [u64; MOST],
     pub(crate) slots: Vec<Slot, Heap>,
     /// How many records are at and under all of them.
     pub(crate) count: usize,
+    /// The first labels of all slots but the first one begin with the same octets, of which so many are
+    /// skipped.
+    pub(crate) skip: u8,
+    /// Whether the labels of all children do.
+    pub(crate) whole: bool,
 }
 
 /// Neighbouring children in a group, at least one.
@@ -132,13 +137,13 @@ impl Model for Group {
 
     ghost view = { λ g. joined g.slots.items };
 
-    ghost invariant = { λ g. IsGroup g.count g.slots.items g.keys };
+    ghost invariant = { λ g. IsGroup g.count g.slots.items g.keys g.skip g.whole };
 
     ghost size = { children_size };
 
     ghost use Rattle.dns_zoneindex.specs.Falls.{group_falls};
 
-    ghost size_decreases = { λ g h. group_falls g.count g.slots.items g.keys h };
+    ghost size_decreases = { λ g h. group_falls g.count g.slots.items g.keys g.skip g.whole h };
 }
 
 impl Model for Slot {
@@ -201,6 +206,8 @@ impl Drop for Group {
             keys: _,
             slots: _slots,
             count: _,
+            skip: _,
+            whole: _,
         } = self;
     }
 }

@@ -1,7 +1,8 @@
-use Rattle.std.proofs.Common.{refl, sym, ap, ◌∙◌}
+use Rattle.std.proofs.Common.{sym, ap, ◌∙◌}
 use Rattle.dns_zoneindex.specs.Children.{items}
 use Rattle.dns_zoneindex.specs.Assoc.{child_of}
-use Rattle.dns_zoneindex.proofs.Slots.{at_place, child_at, child_one, child_other}
+use Rattle.dns_zoneindex.proofs.Fronts.{found_in}
+use Rattle.dns_zoneindex.proofs.Slots.{child_one, child_other}
 use Rattle.dns_zoneindex.proofs.node.Children.find_by_key.Goals as goal
 
 pub returns-then-is_called : goal.returns-then-is_called
@@ -21,8 +22,8 @@ down-preserved c =
     let q = c.args.label.now in
     let g = c.deref-in-Many in
     let slots = g.inside.slots.items in
-    let h = at_place q q slots c.deref-in-Many-2.result.now c.place_of.result c.index.result.now refl c.deref-in-Many-2.ensures.value c.place_of.ensures c.index.ensures in
+    let s = c.index.result.now in
     ap (child_of q) c.behind-slots.view_is
-    ∙ sym (child_at q slots c.place_of.result c.index.result.now h.1 h.0)
+    ∙ found_in q slots c.deref-in-Many-2.result.now c.place_to_find-place.result s c.deref-in-Many-2.ensures.value c.place_to_find-place.ensures c.index.ensures
     ∙ ap (child_of q) (g.view_is ∙ c.deref.ensures ∙ sym (ap items c.in-Many.is))
     ∙ c.down.invariant
