@@ -1,5 +1,5 @@
 -- What a primary is given, one more of it.
-use Rattle.std.proofs.Common.{◌≡◌, ℕ, zero, suc, ◌<◌, ◌≤◌, List, [], ◌∷◌, ◌++◌, Bool, true, false, length, take, drop, take_all, get_or, Ok, refl, sym, ap, subst, ◌∙◌, arith, append-nil, append_assoc}
+use Rattle.std.proofs.Common.{◌≡◌, ℕ, zero, suc, ◌<◌, ◌≤◌, List, [], ◌∷◌, ◌++◌, Bool, true, false, length, map, take, drop, take_all, get_or, Ok, refl, sym, ap, subst, ◌∙◌, arith, append-nil, append_assoc}
 use Rattle.std.specs.Bool.{◌==◌}
 use Rattle.std.proofs.lemmas.Bool.Decides.{nat_tests}
 use Rattle.std.proofs.Math.Seq.{drop-cons}
@@ -60,6 +60,15 @@ closings_more done all [] d zones n z inside some is = absurd (omega (arith, som
 closings_more {D = D} done all (x ∷ still) d zones n z inside some is =
     append_assoc done (Closed (string_bytes (get_or zones n z).device) x ∷ []) (closings still (drop (suc n) zones))
     ∙ sym (ap (λ (zs : List ZoneSettings). done ++ closings (x ∷ still) zs) (drop-cons zones n z inside)) ∙ is
+
+-- The same of what has devices.
+pub closings_more_of : {P D : Type 0} (f : P → D) (done all : List (DeviceCall D)) (still : List P) (p : P) (zones : List ZoneSettings) (n : ℕ) (z : ZoneSettings) → n < length zones → 0 < length still → done ++ closings (map f still) (drop n zones) ≡ all → (done ++ Closed (string_bytes (get_or zones n z).device) (f (get_or still 0 p)) ∷ []) ++ closings (map f (drop 1 still)) (drop (suc n) zones) ≡ all
+closings_more_of f done all [] p zones n z inside some is = absurd (omega (arith, some))
+closings_more_of f done all (x ∷ still) p zones n z inside some is = closings_more done all (f x ∷ map f still) (f x) zones n z inside (omega arith) is
+
+pub closings_over_of : {P D : Type 0} (f : P → D) (done all : List (DeviceCall D)) (still : List P) (zones others : List ZoneSettings) → length still ≡ 0 → done ++ closings (map f still) zones ≡ all → done ++ closings (map f still) others ≡ all
+closings_over_of f done all [] zones others none is = is
+closings_over_of f done all (x ∷ still) zones others none is = absurd (omega (arith, none))
 
 -- There was none to close.
 pub closings_over : {D : Type 0} (done all : List (DeviceCall D)) (still : List D) (zones others : List ZoneSettings) → length still ≡ 0 → done ++ closings still zones ≡ all → done ++ closings still others ≡ all

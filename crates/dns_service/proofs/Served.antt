@@ -192,13 +192,13 @@ served g calls config c options err err_after status holds somehow (inr (none, i
   done = λ _. (c, holds, is);
   refused = λ one. absurd (omega (arith, none, one));
   others = inl (omega (arith, none));
-  called = inr (c, holds, inr (inl somehow));
+  called = inr (c, holds, inr somehow);
 }
 served g calls config c options err err_after status holds somehow (inl three) = record {
   done = λ none. absurd (omega (arith, none, three));
   refused = λ one. absurd (omega (arith, one, three));
   others = inr three;
-  called = inr (c, holds, inr (inl somehow));
+  called = inr (c, holds, inr somehow);
 }
 
 -- A device is refused.

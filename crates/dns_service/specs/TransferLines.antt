@@ -1,15 +1,10 @@
 -- The lines of transfers that ended.
-use Rattle.std.specs.Prelude.{ℕ, Bool, true, false, not, ◌+◌, ◌*◌, ◌==◌, ◌&&◌, List, [], ◌∷◌, ◌++◌, length}
-use Rattle.std.specs.Prelude.{slice_get, slice_set, slice_index, position, Option, Some, None, option_map, codes}
-use Rattle.std.specs.Prelude.{decimal, if◌then◌else◌}
+use Rattle.std.specs.Prelude.{ℕ, ◌+◌, ◌*◌, List, [], ◌++◌, slice_get, slice_set, slice_index, position}
+use Rattle.std.specs.Prelude.{Option, Some, None, option_map, codes, decimal}
 use Rattle.std.specs.declared.net.ip_addr.IpAddr.{IpAddr}
 use Rattle.dns_names.specs.Name.{Labels, names_eq}
 use Rattle.dns_names.specs.Text.{printed_name}
 use Rattle.dns_policy.specs.Printed.{printed_address}
-use Rattle.dns_records.specs.Types.{type_soa}
-use Rattle.dns_records.specs.Record.{serial_of}
-use Rattle.dns_wire.specs.Message.{Message, ResourceRecord, record_of_item}
-use Rattle.dns_wire.specs.Reading.{message_of}
 use Rattle.dns_request.specs.Request.{Request, Ignored, Refused, NotServed, Query, Update, request_of}
 use Rattle.dns_request.specs.Request as request
 use Rattle.dns_request.specs.declared.request.Transport.TheVariants.{Tcp}
@@ -26,7 +21,7 @@ use Rattle.dns_service.specs.UpdateLines.{address_on}
 -- The transfer that a request asks for, before its first message.
 abbrev pub transfer_of : List Labels → Request → Option Transfer
 transfer_of origins (request.Transfer m q) =
-    option_map (λ zone. record { zone = zone; serial = None; records = 0 })
+    option_map (λ zone. record { zone = zone; records = 0 })
     (position (λ origin. names_eq origin q.name) origins)
 transfer_of origins Ignored = None
 transfer_of origins (Refused rcode) = None
@@ -37,27 +32,13 @@ transfer_of origins (Update m q) = None
 abbrev pub transfer_asked : List Labels → List ℕ → Option Transfer
 transfer_asked origins octets = transfer_of origins (request_of octets Tcp)
 
--- The serial of the first record of a message, a SOA.
-abbrev pub first_serial : List ResourceRecord → Option ℕ
-first_serial [] = None
-first_serial (item ∷ rest) =
-    if item.rtype == type_soa && not (length item.rdata == 0) then Some (serial_of (record_of_item item)) else None
-
-abbrev pub serial_of_message : Option Message → Option ℕ
-serial_of_message None = None
-serial_of_message (Some m) = first_serial m.answers
-
 -- How many records a message counts in its answer section, ANCOUNT (RFC 1035 4.1.1).
 abbrev pub answers_in : List ℕ → ℕ
 answers_in message = slice_index message 6 * 256 + slice_index message 7
 
--- A transfer after one message more. The first one tells which version it is of.
+-- A transfer after one message more.
 abbrev pub with_message : Transfer → List ℕ → Transfer
-with_message t message = record {
-  zone = t.zone;
-  serial = if t.records == 0 then serial_of_message (message_of message) else t.serial;
-  records = t.records + answers_in message;
-}
+with_message t message = record { zone = t.zone; records = t.records + answers_in message }
 
 -- The open transfers by the numbers of their connections, after a message that got no reply: it asked for one.
 abbrev pub opened : List (Option Transfer) → ℕ → Option Transfer → List (Option Transfer)
@@ -101,18 +82,16 @@ transfers_after origins transfers Flush effects = transfers
 transfers_after origins transfers (Checkpoint place) effects = transfers
 transfers_after origins transfers (Closed number) effects = transfers
 
--- The line of a transfer that is over: who had it, of which zone, the serial of its version, and how many records
--- were sent.
-abbrev pub over_text : Option IpAddr → Option Labels → Option ℕ → ℕ → List ℕ
-over_text (Some address) (Some origin) (Some serial) records =
-    line (codes "transfer " ++ printed_address address ++ 32 ∷ printed_name origin ++ 32 ∷ decimal serial
-    ++ codes " records " ++ decimal records)
-over_text (Some address) (Some origin) None records = []
-over_text (Some address) None serial records = []
-over_text None origin serial records = []
+-- The line of a transfer that is over: who had it, of which zone, and how many records were sent.
+abbrev pub over_text : Option IpAddr → Option Labels → ℕ → List ℕ
+over_text (Some address) (Some origin) records =
+    line (codes "transfer " ++ printed_address address ++ codes " " ++ printed_name origin ++ codes " records "
+    ++ decimal records)
+over_text (Some address) None records = []
+over_text None origin records = []
 
 abbrev pub over_line : List Labels → Option IpAddr → Option Transfer → List ℕ
-over_line origins address (Some t) = over_text address (slice_get origins t.zone) t.serial t.records
+over_line origins address (Some t) = over_text address (slice_get origins t.zone) t.records
 over_line origins address None = []
 
 -- What is written of a pump: the line of the transfer that is over, if it finds no message left.

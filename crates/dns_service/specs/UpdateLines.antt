@@ -5,8 +5,10 @@ use Rattle.std.specs.declared.net.ip_addr.IpAddr.{IpAddr}
 use Rattle.dns_names.specs.Name.{Labels}
 use Rattle.dns_names.specs.Text.{printed_name}
 use Rattle.dns_policy.specs.Printed.{printed_address}
-use Rattle.dns_wire.specs.Codes.{number_of_rcode}
-use Rattle.dns_request.specs.Codes.{rcode_servfail}
+use Rattle.dns_wire.specs.declared.codes.Rcode.{Rcode}
+use Rattle.dns_wire.specs.declared.codes.Rcode.TheVariants.{NoError, FormErr, ServFail, NxDomain, NotImp}
+use Rattle.dns_wire.specs.declared.codes.Rcode.TheVariants.{YxDomain, YxRrset, NxRrset, NotAuth, NotZone}
+use Rattle.dns_wire.specs.declared.codes.Rcode.TheVariants as rcode
 use Rattle.dns_request.specs.Request.{Request, Ignored, Refused, NotServed, Query, Update, Transfer, request_of}
 use Rattle.dns_request.specs.declared.request.Transport.{Transport}
 use Rattle.dns_request.specs.declared.request.Transport.TheVariants.{Udp, Tcp}
@@ -42,29 +44,51 @@ code_word code =
 abbrev pub is_refusal : ℕ → Bool
 is_refusal code = not (code == 0) && not (code == 3)
 
--- Who asked, for which zone, and the code of the reply.
-abbrev pub asked_text : List ℕ → IpAddr → Labels → ℕ → List ℕ
-asked_text kind address zone code =
-    kind ++ 32 ∷ printed_address address ++ 32 ∷ printed_name zone ++ 32 ∷ code_word code
+-- The line of a request that was refused: of which kind it is, who asked, for which zone, and the code.
+abbrev pub refused_line : List ℕ → IpAddr → Labels → ℕ → List ℕ
+refused_line kind address zone code =
+    line (kind ++ codes " " ++ printed_address address ++ codes " " ++ printed_name zone ++ codes " "
+    ++ code_word code)
 
--- The lines of an update of the zone with this name that was answered after a flush. With NOERROR its line has
--- the number and the serial of the zone's newest version when it had been judged. One that was refused for want
--- of room has a second line.
-abbrev pub update_text : Labels → HeaderTo → List ℕ
-update_text origin h =
-    if code_of h.octets == 0
-    then line (asked_text (codes "update") h.waited.address origin (code_of h.octets) ++ codes " version "
-    ++ decimal h.waited.version ++ codes " serial " ++ decimal h.waited.serial)
-    else line (asked_text (codes "update") h.waited.address origin (code_of h.octets))
-    ++ (if number_of_rcode h.waited.rcode == rcode_servfail then line (codes "full " ++ printed_name origin)
-    else [])
+-- The line of an update that was done: the number and the serial of the zone's newest version when it had been
+-- judged.
+abbrev pub asker_text : IpAddr → Labels → List ℕ
+asker_text address origin = codes "update " ++ printed_address address ++ codes " " ++ printed_name origin
 
--- What is written of it, and the counts after it. That of an accepted update is never left out.
+abbrev pub version_text : ℕ → ℕ → List ℕ
+version_text version serial =
+    line (codes " NOERROR version " ++ decimal version ++ codes " serial " ++ decimal serial)
+
+abbrev pub done_text : IpAddr → Labels → ℕ → ℕ → List ℕ
+done_text address origin version serial = asker_text address origin ++ version_text version serial
+
+-- The line of a zone that has no room: SERVFAIL, as an update was judged, says no more.
+abbrev pub full_text : Labels → Rcode → List ℕ
+full_text origin ServFail = line (codes "full " ++ printed_name origin)
+full_text origin NoError = []
+full_text origin FormErr = []
+full_text origin NxDomain = []
+full_text origin NotImp = []
+full_text origin rcode.Refused = []
+full_text origin YxDomain = []
+full_text origin YxRrset = []
+full_text origin NxRrset = []
+full_text origin NotAuth = []
+full_text origin NotZone = []
+
+-- The lines of an update of the zone with this name that was refused after a flush.
+abbrev pub denied_text : Labels → HeaderTo → List ℕ
+denied_text origin h =
+    refused_line (codes "update") h.waited.address origin (code_of h.octets) ++ full_text origin h.waited.rcode
+
+-- What is written of an update that was answered after a flush, and the counts after it. The line of one that
+-- was done is never left out.
 abbrev pub update_said : Option Labels → Counts → HeaderTo → List ℕ × Counts
 update_said None counts h = ([], counts)
 update_said (Some origin) counts h =
-    if code_of h.octets == 0 then (update_text origin h, counts)
-    else by_verdict (line_verdict false counts) (update_text origin h)
+    if code_of h.octets == 0
+    then (done_text h.waited.address origin h.waited.version h.waited.serial, counts)
+    else by_verdict (line_verdict false counts) (denied_text origin h)
 
 abbrev pub header_said : List Labels → Counts → HeaderTo → List ℕ × Counts
 header_said origins counts h = update_said (slice_get origins h.waited.zone) counts h
@@ -75,10 +99,6 @@ headers_said origins counts [] = ([], counts)
 headers_said origins counts (h ∷ rest) =
     let first = header_said origins counts h in
     let later = headers_said origins first.1 rest in (first.0 ++ later.0, later.1)
-
--- The line of a request that was refused at once.
-abbrev pub refused_line : List ℕ → IpAddr → Labels → ℕ → List ℕ
-refused_line kind address zone code = line (asked_text kind address zone code)
 
 -- What is written of a request that was refused at once: of an update, or a request for a transfer.
 abbrev pub request_said : Counts → IpAddr → Request → ℕ → List ℕ × Counts

@@ -409,7 +409,8 @@ impl<E: Write> Observer for Log<'_, E> {
     /// An event of which nothing is said, as a query that is answered, costs some comparisons.
     #[inline]
     fn observe(&mut self, event: Event<'_>, effects: &Effects) {
-        if self.is_quiet {
+        let is_quiet = self.is_quiet;
+        if is_quiet {
             return;
         }
         if self.is_silent(event, effects) {

@@ -39,6 +39,21 @@ pub(crate) fn close_all<D: Drop, F: Devices<D>>(
     }
 }
 
+/// The device of a store.
+fn device_of<D: Sectors + Drop, I: ZoneIndex>(pending: PendingZone<I, KeptStore<D, I>>) -> D
+    ensures { result ≡ device_of_pending pending }
+{
+    let PendingZone {
+        tip: _,
+        store,
+        number: _,
+        octets: _,
+        snapshot: _,
+        journal: _,
+    } = pending;
+    store.into_device()
+}
+
 /// Closes the devices of stores, those of the first zones.
 pub(crate) fn close_stores<D: Sectors + Drop, F: Devices<D>, I: ZoneIndex>(
     devices: &mut F,
@@ -51,15 +66,7 @@ pub(crate) fn close_stores<D: Sectors + Drop, F: Devices<D>, I: ZoneIndex>(
     let mut open = stores;
     for own in zones {
         if !open.is_empty() {
-            let PendingZone {
-                tip: _,
-                store,
-                number: _,
-                octets: _,
-                snapshot: _,
-                journal: _,
-            } = open.remove(0);
-            devices.close(&own.device, store.into_device());
+            devices.close(&own.device, device_of(open.remove(0)));
         }
     }
 }

@@ -1,16 +1,11 @@
 //! The lines of transfers that ended, and the transfers that are open meanwhile.
-ghost use Rattle.std.specs.Prelude.{◌≡◌, ◌++◌, ◌⊎◌, ◌==◌, ◌&&◌, ◌<◌, not, true, List, [], Option, length};
-ghost use Rattle.std.specs.Prelude.{position, slice_get, slice_index, slice_set, OnOk, IfOk};
+ghost use Rattle.std.specs.Prelude.{◌≡◌, ◌++◌, ◌<◌, true, List, [], Option, Some, position, slice_get};
+ghost use Rattle.std.specs.Prelude.{slice_index, OnOk, IfOk, IfSome};
 ghost use Rattle.std.specs.declared.net.ip_addr.IpAddr.{IpAddr as StatedAddress};
 ghost use Rattle.dns_names.specs.Name.{Labels, names_eq};
-ghost use Rattle.dns_records.specs.Record.{IsRData, serial_of};
-ghost use Rattle.dns_records.specs.Refusals.{RefusesData};
-ghost use Rattle.dns_records.specs.Types.{type_soa};
-ghost use Rattle.dns_wire.specs.Message.{data_of_item, record_of_item};
-ghost use Rattle.dns_wire.specs.Reading.{message_of};
 ghost use Rattle.dns_primary.specs.Steps.{event_shown};
 ghost use Rattle.dns_service.specs.TransferLines.{after_message, after_pump, answers_in, open_on, over_text};
-ghost use Rattle.dns_service.specs.TransferLines.{pump_said, serial_of_message, transfer_asked, transfer_said};
+ghost use Rattle.dns_service.specs.TransferLines.{pump_said, transfer_asked, transfer_said};
 ghost use Rattle.dns_service.specs.TransferLines.{transfers_after, with_message};
 
 use crate::slots::set;
@@ -19,10 +14,7 @@ use dns_memory::Heap;
 use dns_names::Name;
 use dns_policy::print_address;
 use dns_primary::{Effects, Event, Noted};
-use dns_records::RecordError;
-use dns_records::types::SOA;
 use dns_request::{Request, Transport, classify};
-use dns_wire::{Message, RecordView};
 use std::alloc::AllocError;
 use std::io::{self, ErrorKind, Write};
 use std::net::IpAddr;
@@ -30,10 +22,8 @@ use std::net::IpAddr;
 /// A transfer that is open on a connection.
 #[derive(Clone, Copy)]
 pub(crate) struct Transfer {
-    /// The position of its zone.
+    /// The index of its zone.
     pub(crate) zone: usize,
-    /// The serial of the version that is sent, which its first message tells.
-    pub(crate) serial: Option<u32>,
     /// How many records were sent.
     pub(crate) records: u64,
 }
@@ -53,11 +43,7 @@ fn asked(alloc: Heap, origins: &[Name], octets: &[u8]) -> Result<Option<Transfer
         Request::Transfer(request) => {
             let name = request.question.name().to_name(alloc)?;
             match index_of(origins, &name) {
-                Some(zone) => Ok(Some(Transfer {
-                    zone,
-                    serial: None,
-                    records: 0,
-                })),
+                Some(zone) => Ok(Some(Transfer { zone, records: 0 })),
                 None => Ok(None),
             }
         }
@@ -67,56 +53,6 @@ fn asked(alloc: Heap, origins: &[Name], octets: &[u8]) -> Result<Option<Transfer
         Request::Query(_) => Ok(None),
         Request::Update(_) => Ok(None),
     }
-}
-
-/// Why there is no record of the data of a SOA, which has its form: memory was refused.
-fn refused_memory(error: RecordError, item: &RecordView<'_>) -> AllocError
-    requires soa { item.now.rtype ≡ type_soa }
-    requires form { IsRData type_soa item.now.rdata }
-    requires refused { (error ≡ RecordError.OutOfMemory) ⊎ RefusesData (data_of_item item.now) error }
-{
-    match error {
-        RecordError::OutOfMemory => AllocError,
-        RecordError::BadData => unreachable!(),
-        RecordError::TooLong => unreachable!(),
-        RecordError::UnknownType => unreachable!(),
-    }
-}
-
-/// The serial of a SOA of a message (RFC 1035 section 3.3.13).
-fn serial_of(alloc: Heap, soa: &RecordView<'_>) -> Result<u32, AllocError>
-    requires soa { soa.now.rtype ≡ type_soa }
-    requires form { IsRData type_soa soa.now.rdata }
-    ensures { IfOk result (λ serial. serial ≡ serial_of (record_of_item soa.now)) }
-{
-    match soa.to_record(alloc) {
-        Ok(record) => Ok(record.serial()),
-        Err(error) => Err(refused_memory(error, soa)),
-    }
-}
-
-/// Whether a record of a message is a SOA with data.
-fn is_soa(alloc: Heap, item: &RecordView<'_>) -> Result<bool, AllocError>
-    ensures { IfOk result (λ is. is ≡ (item.now.rtype == type_soa && not (length item.now.rdata == 0))) }
-{
-    let rdata = item.rdata(alloc)?;
-    Ok((item.rtype() == SOA) & !rdata.is_empty())
-}
-
-/// The serial of the first record of a message, if that is a SOA.
-fn first_serial(alloc: Heap, octets: &[u8]) -> Result<Option<u32>, AllocError>
-    ensures { IfOk result (λ serial. serial ≡ serial_of_message (message_of octets.now)) }
-{
-    let Ok(message) = Message::read(octets) else {
-        return Ok(None);
-    };
-    let Some(item) = message.answers().next() else {
-        return Ok(None);
-    };
-    if !is_soa(alloc, &item)? {
-        return Ok(None);
-    }
-    Ok(Some(serial_of(alloc, &item)?))
 }
 
 /// An octet of a message, or 0 after its end.
@@ -137,21 +73,13 @@ fn answers_in(message: &[u8]) -> u64
     octet_at(message, 6) * 256 + octet_at(message, 7)
 }
 
-/// A transfer after one message more.
-fn with_message(alloc: Heap, transfer: Transfer, message: &[u8]) -> io::Result<Transfer>
-    ensures { IfOk result (λ after. after ≡ with_message transfer message.now) }
+/// A transfer after one message more, or none if the count is at its end.
+fn with_message(transfer: Transfer, message: &[u8]) -> Option<Transfer>
+    ensures { IfSome result (λ after. after ≡ with_message transfer message.now) }
 {
-    let serial = if transfer.records == 0 {
-        first_serial(alloc, message)?
-    } else {
-        transfer.serial
-    };
-    let Some(records) = transfer.records.checked_add(answers_in(message)) else {
-        return Err(ErrorKind::Other.into());
-    };
-    Ok(Transfer {
+    let records = transfer.records.checked_add(answers_in(message))?;
+    Some(Transfer {
         zone: transfer.zone,
-        serial,
         records,
     })
 }
@@ -189,7 +117,6 @@ fn open_on(transfers: &[Option<Transfer>], number: usize) -> Option<Transfer>
 
 /// Keeps what a pump made of the transfer on a connection: it has sent a message more, or it is over.
 fn keep_pumped(
-    alloc: Heap,
     transfers: &mut [Option<Transfer>],
     number: usize,
     effects: &Effects,
@@ -202,7 +129,9 @@ fn keep_pumped(
     };
     match &effects.message {
         Some(reply) => {
-            let after = with_message(alloc, transfer, reply.octets.as_slice())?;
+            let Some(after) = with_message(transfer, reply.octets.as_slice()) else {
+                return Err(ErrorKind::Other.into());
+            };
             set(transfers, number, Some(after));
         }
         None => {
@@ -229,7 +158,7 @@ pub(crate) fn keep_transfers(
         Event::Message(number, octets) => {
             Ok(keep_opened(alloc, origins, transfers, number, octets, effects)?)
         }
-        Event::Pump(number) => keep_pumped(alloc, transfers, number, effects),
+        Event::Pump(number) => keep_pumped(transfers, number, effects),
         Event::Datagram(_, _) => Ok(()),
         Event::Connect(_) => Ok(()),
         Event::Flush => Ok(()),
@@ -238,7 +167,21 @@ pub(crate) fn keep_transfers(
     }
 }
 
-/// Appends the line of a transfer that is over, if its peer, its zone and its serial are known.
+/// Appends the line of a transfer that is over.
+fn add_over_line(
+    lines: &mut Vec<u8, Heap>,
+    address: IpAddr,
+    origin: &Name,
+    records: u64,
+) -> io::Result<()>
+    ensures { OnOk result (lines.new.items ≡ lines.old.items
+        ++ over_text (Some address) (Some origin.now) records) }
+{
+    let address = print_address(address);
+    writeln!(lines, "transfer {address} {origin} records {records}")
+}
+
+/// Appends the line of a transfer that is over, if its peer and its zone are known.
 fn add_over(
     lines: &mut Vec<u8, Heap>,
     origins: &[Name],
@@ -246,7 +189,7 @@ fn add_over(
     transfer: Transfer,
 ) -> io::Result<()>
     ensures { OnOk result (lines.new.items ≡ lines.old.items
-        ++ over_text address (slice_get origins.now transfer.zone) transfer.serial transfer.records) }
+        ++ over_text address (slice_get origins.now transfer.zone) transfer.records) }
 {
     let Some(address) = address else {
         return Ok(());
@@ -254,15 +197,7 @@ fn add_over(
     let Some(origin) = origins.get(transfer.zone) else {
         return Ok(());
     };
-    let Some(serial) = transfer.serial else {
-        return Ok(());
-    };
-    let address = print_address(address);
-    let records = transfer.records;
-    writeln!(
-        lines,
-        "transfer {address} {origin} {serial} records {records}"
-    )
+    add_over_line(lines, address, origin, transfer.records)
 }
 
 /// Appends the line of the transfer that a pump finds over, if it is.

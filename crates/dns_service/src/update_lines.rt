@@ -1,5 +1,5 @@
 //! The lines of updates that were answered, and of requests that were refused at once.
-ghost use Rattle.std.specs.Prelude.{◌≡◌, ◌++◌, Bool, true, List, Option, OnOk, IfOk};
+ghost use Rattle.std.specs.Prelude.{◌≡◌, ◌++◌, true, false, List, [], Option, Some, OnOk, IfOk};
 ghost use Rattle.std.specs.declared.net.ip_addr.IpAddr.{IpAddr as StatedAddress};
 ghost use Rattle.dns_names.specs.Name.{Labels};
 ghost use Rattle.dns_primary.specs.Step.{Event as StatedEvent};
@@ -9,7 +9,8 @@ ghost use Rattle.dns_service.specs.declared.log.Counts.{Counts as StatedCounts};
 ghost use Rattle.dns_service.specs.Log.{IsAdded};
 ghost use Rattle.dns_service.specs.UpdateLines.{address_on, asked_said, code_of, code_word, event_said, header_said};
 ghost use Rattle.dns_service.specs.UpdateLines.{headers_said, is_refusal, refusal_said, refused_line};
-ghost use Rattle.dns_service.specs.UpdateLines.{reply_said, update_text};
+ghost use Rattle.dns_service.specs.UpdateLines.{asker_text, denied_text, done_text, full_text, reply_said};
+ghost use Rattle.dns_service.specs.UpdateLines.{update_said, version_text};
 ghost use Rattle.dns_service.specs.Verdict.{by_verdict, line_verdict};
 
 use crate::log::{Counts, judge};
@@ -53,30 +54,111 @@ fn code_of(reply: &[u8]) -> u8
     }
 }
 
-/// Appends the lines of an update that was answered after a flush.
-fn add_update(lines: &mut Vec<u8, Heap>, origin: &Name, header: &HeaderTo) -> io::Result<()>
-    ensures { OnOk result (lines.new.items ≡ lines.old.items ++ update_text origin.now header.now) }
+/// Appends whose update it was, and of which zone.
+fn add_asker(lines: &mut Vec<u8, Heap>, address: IpAddr, origin: &Name) -> io::Result<()>
+    ensures { OnOk result (lines.new.items ≡ lines.old.items ++ asker_text address origin.now) }
 {
-    let address = print_address(header.waited.address);
-    let code = code_of(&header.octets);
-    let word = code_word(code);
-    if code == 0 {
-        let version = header.waited.version;
-        let serial = header.waited.serial;
-        return writeln!(
-            lines,
-            "update {address} {origin} {word} version {version} serial {serial}"
-        );
-    }
-    writeln!(lines, "update {address} {origin} {word}")?;
-    if header.waited.rcode == Rcode::ServFail {
-        return writeln!(lines, "full {origin}");
-    }
-    Ok(())
+    let address = print_address(address);
+    write!(lines, "update {address} {origin}")
 }
 
-/// Appends what is reported of an update that was answered after a flush, unless it was refused and peers have
-/// caused too many lines, and returns the counts after it.
+/// Appends which version came of an update, to the end of its line.
+fn add_version(lines: &mut Vec<u8, Heap>, version: u64, serial: u32) -> io::Result<()>
+    ensures { OnOk result (lines.new.items ≡ lines.old.items ++ version_text version serial) }
+{
+    writeln!(lines, " NOERROR version {version} serial {serial}")
+}
+
+/// Appends the line of an update that was done.
+fn add_done(
+    lines: &mut Vec<u8, Heap>,
+    address: IpAddr,
+    origin: &Name,
+    version: u64,
+    serial: u32,
+) -> io::Result<()>
+    ensures { OnOk result (lines.new.items ≡ lines.old.items
+        ++ done_text address origin.now version serial) }
+{
+    add_asker(lines, address, origin)?;
+    add_version(lines, version, serial)
+}
+
+/// Appends the line of a request that was refused with a code.
+fn add_refused_line(
+    lines: &mut Vec<u8, Heap>,
+    kind: &str,
+    address: IpAddr,
+    zone: &Name,
+    code: u8,
+) -> io::Result<()>
+    ensures { OnOk result (lines.new.items ≡ lines.old.items
+        ++ refused_line kind.now address zone.now code) }
+{
+    let address = print_address(address);
+    let word = code_word(code);
+    writeln!(lines, "{kind} {address} {zone} {word}")
+}
+
+/// Appends that a zone has no room, if the reply to an update was to say so.
+fn add_full(lines: &mut Vec<u8, Heap>, origin: &Name, rcode: Rcode) -> io::Result<()>
+    ensures { OnOk result (lines.new.items ≡ lines.old.items ++ full_text origin.now rcode) }
+{
+    match rcode {
+        Rcode::ServFail => writeln!(lines, "full {origin}"),
+        _ => Ok(()),
+    }
+}
+
+/// Appends the lines of an update that was refused after a flush, unless peers have caused too many, and
+/// returns the counts after it.
+fn add_denied(
+    lines: &mut Vec<u8, Heap>,
+    origin: &Name,
+    counts: Counts,
+    header: &HeaderTo,
+) -> io::Result<Counts>
+    ensures { IfOk result (λ after.
+        IsAdded (by_verdict (line_verdict false counts) (denied_text origin.now header.now)) lines.old.items
+        lines.new.items after) }
+{
+    let Some((is_written, after)) = judge(false, counts) else {
+        return Err(ErrorKind::Other.into());
+    };
+    if is_written {
+        let waited = header.waited;
+        add_refused_line(
+            lines,
+            "update",
+            waited.address,
+            origin,
+            code_of(&header.octets),
+        )?;
+        add_full(lines, origin, waited.rcode)?;
+    }
+    Ok(after)
+}
+
+/// Appends what is reported of an update of a zone that was answered after a flush, and returns the counts
+/// after it.
+fn add_update(
+    lines: &mut Vec<u8, Heap>,
+    origin: &Name,
+    counts: Counts,
+    header: &HeaderTo,
+) -> io::Result<Counts>
+    ensures { IfOk result (λ after.
+        IsAdded (update_said (Some origin.now) counts header.now) lines.old.items lines.new.items after) }
+{
+    if code_of(&header.octets) == 0 {
+        let waited = header.waited;
+        add_done(lines, waited.address, origin, waited.version, waited.serial)?;
+        return Ok(counts);
+    }
+    add_denied(lines, origin, counts, header)
+}
+
+/// Appends what is reported of an update that was answered after a flush, and returns the counts after it.
 fn add_header(
     lines: &mut Vec<u8, Heap>,
     origins: &[Name],
@@ -86,20 +168,10 @@ fn add_header(
     ensures { IfOk result (λ after.
         IsAdded (header_said origins.now counts header.now) lines.old.items lines.new.items after) }
 {
-    let Some(origin) = origins.get(header.waited.zone) else {
-        return Ok(counts);
-    };
-    if code_of(&header.octets) == 0 {
-        add_update(lines, origin, header)?;
-        return Ok(counts);
+    match origins.get(header.waited.zone) {
+        Some(origin) => add_update(lines, origin, counts, header),
+        None => Ok(counts),
     }
-    let Some((is_written, after)) = judge(false, counts) else {
-        return Err(ErrorKind::Other.into());
-    };
-    if is_written {
-        add_update(lines, origin, header)?;
-    }
-    Ok(after)
 }
 
 /// Appends what is reported of updates that were answered after a flush, in their order, and returns the
@@ -139,9 +211,7 @@ fn add_refused(
     };
     if is_written {
         let name = question.name().to_name(*lines.allocator())?;
-        let address = print_address(address);
-        let word = code_word(code);
-        writeln!(lines, "{kind} {address} {name} {word}")?;
+        add_refused_line(lines, kind, address, &name, code)?;
     }
     Ok(after)
 }

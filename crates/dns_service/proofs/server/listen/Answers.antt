@@ -10,8 +10,8 @@ use Rattle.dns_service.proofs.Turned.{has_been_turned, none_run, some_run}
 use Rattle.dns_service.proofs.server.listen.Goals as goal
 
 -- Slots in a list that was empty.
-none_yet : {T : Type 0} {old new : List (Option T)} → old ≡ [] → new ≡ take 64 old ++ replicate (64 - length old) None → new ≡ replicate 64 None
-none_yet {T = T} empty filled = filled ∙ ap (λ (x : List (Option T)). take 64 x ++ replicate (64 - length x) None) empty
+none_yet : {T : Type 0} {old new : List (Option T)} {n : ℕ} → old ≡ [] → n ≡ 0 → new ≡ take 64 old ++ replicate (64 - n) None → new ≡ replicate 64 None
+none_yet {T = T} empty none filled = filled ∙ (λ i. take 64 (empty i) ++ replicate (64 - none i) None)
 
 pub returns-clause-ended : goal.returns-clause-ended
 returns-clause-ended g c =
@@ -23,7 +23,7 @@ returns-clause-ended g c =
       has_listened (λ x k kept z left. g.met.S.ZoneStore.at_rest x k kept z left) c.in_ok-run.ensures (λ log. log.err.ghost_name) (λ log. log.origins.now) (λ log. log.is_quiet) (λ log. log.has_failed) (λ log. logged (text log.err.now) log.lines.now.items log.counts log.addresses.now.items log.transfers.now.items) (λ old one new h. h)
           (λ old event effects new h. h)
           c.args.addresses.now (text c.args.err.now) said c.in_ok-tell_listening.ensures
-          (record { none = c.new-lines.ensures.items; fresh = λ i. record { counts = c.new-counts.ensures i; addresses = none_yet c.new-opened.ensures.items c.in_ok-resize.ensures.items i; transfers = none_yet c.new-transfers.ensures.items c.in_ok-resize-2.ensures.items i } }) (c.is_written.ensures.whole is)
+          (record { none = c.new-lines.ensures.items; fresh = λ i. record { counts = c.new-counts.ensures i; addresses = none_yet c.new-opened.ensures.items c.new-opened.ensures.len c.in_ok-resize.ensures.items i; transfers = none_yet c.new-transfers.ensures.items c.new-transfers.ensures.len c.in_ok-resize-2.ensures.items i } }) (c.is_written.ensures.whole is)
           (subst (λ (lines : List ℕ). Appends said said lines) (sym (c.is_written.ensures.lines is)) (Appends-nil said)) (λ same. ap text (c.err-2-1.given.1 same)),
     )
 
