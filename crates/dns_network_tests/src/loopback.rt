@@ -152,7 +152,7 @@ const RUNS: &[Run] = &[
         read: &[ANSWERS, FRAMED_REPLY],
         log: "conn 0 open 127.0.0.1\nconn 1 open 127.0.0.1\n\
               update 127.0.0.1 example. NOERROR version 1 serial 8\n\
-              conn 1 closed\nconn 0 closed\n",
+              conn 1 closed\ntransfer 127.0.0.1 example. records 5\nconn 0 closed\n",
     },
     // One turn answers one of two datagrams.
     Run {
