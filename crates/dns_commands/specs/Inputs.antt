@@ -59,7 +59,8 @@ octets_read (Err error) = None
 
 -- Files that were read, each with its path.
 abbrev pub inputs_of : List (String Global × Option (Vec ℕ Global)) → List Input
-inputs_of files = map (λ (f : String Global × Option (Vec ℕ Global)). (string_bytes f.0, octets_held f.1)) files
+inputs_of files =
+    map (λ (f : String Global × Option (Vec ℕ Global)). (string_bytes f.0, octets_held f.1)) files
 
 -- The master files of the first zones were read, in their order.
 abbrev pub AreFirstFiles : List ZoneSettings → List Input → Type 0

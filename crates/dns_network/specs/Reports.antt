@@ -15,8 +15,8 @@ AreOfEach {R = R} told (one ∷ rest) reports =
     (first : List R) × (later : List R) × told one first × AreOfEach told rest later
     × (reports ≡ first ++ later)
 
--- Of a reply to send: nothing, unless the connection to which it was to go is closed in its stead, before which
--- refused memory is noted if the reply is not too long.
+-- Of a reply to send: nothing, unless the connection to which it was to go is closed in its stead, before
+-- which refused memory is noted if the reply is not too long.
 abbrev pub AreNotesOfReply : To → List ℕ → Bool → List Note → Type 0
 AreNotesOfReply (to.Connection number) reply true notes =
     ((65535 < length reply) × (notes ≡ Closed number ∷ []))
@@ -46,8 +46,8 @@ AreReportsOfMoment (Happens event effects goings) reports =
 AreReportsOfMoment (Closes number cause) reports =
     reports ≡ of_notes (notes_of_cause cause ++ Closed number ∷ [])
 
--- Of a turn, which is told by its moments: that it begins, in some second of the clock; what is reported in it;
--- that it ends.
+-- Of a turn, which is told by its moments: that it begins, in some second of the clock; what is reported in
+-- it; that it ends.
 abbrev pub AreReportsOfTurn : List TurnMoment → List Report → Type 0
 AreReportsOfTurn moments reports =
     (now : ℕ) × (within : List Report) × AreOfEach AreReportsOfMoment moments within

@@ -79,9 +79,9 @@ pub fn replies_wait_law()
 {}
 
 /// If memory is not refused, SERVFAIL comes only for a closed zone, for want of room, or for a reply by TCP
-/// over 65,535 octets: each reply with it that goes out, or that begins to wait, has such a cause. What waited
-/// gets it only if the device of its zone fails in this very event, which closes the zone. It is said of
-/// machines as `flush_law` finds them in each run.
+/// over 65,535 octets: each reply with it that goes out, or that begins to wait, has such a cause. What
+/// waited gets it only if the device of its zone fails in this very event, which closes the zone. It is said
+/// of machines as `flush_law` finds them in each run.
 pub fn servfail_law()
     ensures { (fails : List Bool) (old : Machine) (event : StatedEvent)
         (effects : StatedEffects) (new : Machine)

@@ -188,8 +188,8 @@ abbrev pub IsWrittenAt : Bool → Report → Type 0
 IsWrittenAt quiet (OfNote one) = one ≡ note.Ends
 IsWrittenAt quiet (OfEvent event effects) = (quiet ≡ false) × (effects.headers.items ≡ [] → ⊥)
 
--- A report was taken by a log of these zones: if no write has failed after it, none had before it, and what is
--- to be said of the report comes after all that was said.
+-- A report was taken by a log of these zones: if no write has failed after it, none had before it, and what
+-- is to be said of the report comes after all that was said.
 pub record IsLogged (quiet : Bool) (origins : List Labels) (one : Report) (failed failed_after : Bool)
     (log after : Logged) : Type 0 where
   pub said : failed_after ≡ false

@@ -64,8 +64,8 @@ pub record IsNotGiven {D : Type 0} (calls : List (DeviceCall D)) (zones : List Z
   pub came : calls ≡ openings given zones ++ (tried ++ closings given zones)
   pub why : ((fault ≡ OutOfMemory) × (tried ≡ [])) ⊎ CannotBeHad tried zones place fault
 
--- What is said of devices that were opened, the settings of their zones, a machine that stopped within an event,
--- with so many tries since, and the one that recovered from that stop.
+-- What is said of devices that were opened, the settings of their zones, a machine that stopped within an
+-- event, with so many tries since, and the one that recovered from that stop.
 abbrev pub OfRecovered : Type 0 → Type 1
 OfRecovered D = List D → List primary.ZoneSpec → Machine → Event → ℕ → Machine → Type 0
 
@@ -117,9 +117,9 @@ abbrev pub IsNotServed : {D : Type 0} → Ghosts D → List (DeviceCall D) → L
 IsNotServed g calls zones place fault =
     IsNotGiven calls zones place fault ⊎ IsZoneNotOpened g calls zones place fault
 
--- A primary keeps the machine that recovered, and a crash at any moment of opening the stores leaves each device
--- as one that a zone of the stopped machine may be recovered as.
-abbrev pub IsOpenedAs : {D I : Type 0} {g : Ghosts D} {i : index.Ghosts I} {s : store.Ghosts (KeptStore D I g)}
-    → Primary I (KeptStore D I g) i s → OfRecovered D
+-- A primary keeps the machine that recovered, and a crash at any moment of opening the stores leaves each
+-- device as one that a zone of the stopped machine may be recovered as.
+abbrev pub IsOpenedAs : {D I : Type 0} {g : Ghosts D} {i : index.Ghosts I}
+    {s : store.Ghosts (KeptStore D I g)} → Primary I (KeptStore D I g) i s → OfRecovered D
 IsOpenedAs {g} p devices known m event tries new =
     IsKept p new × LeaveRecovered g (suc tries) m event 0 m.zones devices (devices_of p)

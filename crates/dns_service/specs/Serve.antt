@@ -44,9 +44,8 @@ IsPathAt (z ∷ zones) zero path = path ≡ string_bytes z.device
 IsPathAt (z ∷ zones) (suc place) path = IsPathAt zones place path
 
 -- The device of a zone is refused, and the text says so.
-pub record IsDeviceRefused {D : Type 0} (g : Ghosts D) (calls : List (DeviceCall D)) (zones : List ZoneSettings)
-    (explain : Bool) (text : List ℕ)
-    : Type 0 where
+pub record IsDeviceRefused {D : Type 0} (g : Ghosts D) (calls : List (DeviceCall D))
+    (zones : List ZoneSettings) (explain : Bool) (text : List ℕ) : Type 0 where
   pub place : ℕ
   pub path : List ℕ
   pub fault : DeviceFault
@@ -71,8 +70,8 @@ ArePrimaryClosed {g} calls zones primary =
     → AreSetAs names known m.zones → AreRecoverable g 0 m event 0 m.zones names known (devices_of primary))
 
 -- A crash at any moment from the opening of devices to their closing leaves each, by itself, as one that the
--- zone of the machine that stopped may be recovered as, or as the run from the one that recovered allows; those
--- from this position on.
+-- zone of the machine that stopped may be recovered as, or as the run from the one that recovered allows;
+-- those from this position on.
 abbrev pub AreServedFrom : {D : Type 0} → Ghosts D → ℕ → Machine → Event → Machine → List Moment → ℕ
     → List ZoneState → List D → List D → Type 0
 AreServedFrom g tries m event start run place [] [] [] = Unit {0}
@@ -82,16 +81,17 @@ AreServedFrom g tries m event start run place (z ∷ zones) (d ∷ devices) (e �
     × AreServedFrom g tries m event start run (suc place) zones devices back
 AreServedFrom g tries m event start run place _ _ _ = ⊥
 
--- Turns were made of a machine that recovered: their events are those of a run from it; each device was closed
--- as the machine at the run's end left its zone; and what a crash leaves at any moment between is as above.
+-- Turns were made of a machine that recovered: their events are those of a run from it; each device was
+-- closed as the machine at the run's end left its zone; and what a crash leaves at any moment between is as
+-- above.
 abbrev pub HaveServed : {D : Type 0} → Ghosts D → List (List TurnMoment) → List ZoneSettings → List D
     → OfRecovered D
 HaveServed g turns zones back devices known m event tries start =
     HaveRun turns (λ _ run. AreLeft g zones back known (last_of start run)
     × AreServedFrom g (suc tries) m event start run 0 m.zones devices back) start
 
--- All turns were made of a primary over the devices of a configuration's zones, which were then closed. The log
--- tells of the versions that are shown at the run's start, of the addresses, and of all that was noted.
+-- All turns were made of a primary over the devices of a configuration's zones, which were then closed. The
+-- log tells of the versions that are shown at the run's start, of the addresses, and of all that was noted.
 pub record IsServedFor {D : Type 0} (g : Ghosts D) (calls : List (DeviceCall D)) (c : Configuration)
     (options : ServeOptions) (err err_after : Option (List ℕ)) : Type 0 where
   pub opening : List (DeviceCall D)

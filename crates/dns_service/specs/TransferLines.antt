@@ -40,7 +40,8 @@ answers_in message = slice_index message 6 * 256 + slice_index message 7
 abbrev pub with_message : Transfer → List ℕ → Transfer
 with_message t message = record { zone = t.zone; records = t.records + answers_in message }
 
--- The open transfers by the numbers of their connections, after a message that got no reply: it asked for one.
+-- The open transfers by the numbers of their connections, after a message that got no reply: it asked for
+-- one.
 abbrev pub opened : List (Option Transfer) → ℕ → Option Transfer → List (Option Transfer)
 opened transfers number None = transfers
 opened transfers number (Some t) = slice_set transfers number (Some t)
@@ -85,8 +86,8 @@ transfers_after origins transfers (Closed number) effects = transfers
 -- The line of a transfer that is over: who had it, of which zone, and how many records were sent.
 abbrev pub over_text : Option IpAddr → Option Labels → ℕ → List ℕ
 over_text (Some address) (Some origin) records =
-    line (codes "transfer " ++ printed_address address ++ codes " " ++ printed_name origin ++ codes " records "
-    ++ decimal records)
+    line (codes "transfer " ++ printed_address address ++ codes " " ++ printed_name origin
+    ++ codes " records " ++ decimal records)
 over_text (Some address) None records = []
 over_text None origin records = []
 

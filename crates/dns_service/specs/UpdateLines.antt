@@ -9,7 +9,8 @@ use Rattle.dns_wire.specs.declared.codes.Rcode.{Rcode}
 use Rattle.dns_wire.specs.declared.codes.Rcode.TheVariants.{NoError, FormErr, ServFail, NxDomain, NotImp}
 use Rattle.dns_wire.specs.declared.codes.Rcode.TheVariants.{YxDomain, YxRrset, NxRrset, NotAuth, NotZone}
 use Rattle.dns_wire.specs.declared.codes.Rcode.TheVariants as rcode
-use Rattle.dns_request.specs.Request.{Request, Ignored, Refused, NotServed, Query, Update, Transfer, request_of}
+use Rattle.dns_request.specs.Request.{Request, Ignored, Refused, NotServed, Query, Update, Transfer}
+use Rattle.dns_request.specs.Request.{request_of}
 use Rattle.dns_request.specs.declared.request.Transport.{Transport}
 use Rattle.dns_request.specs.declared.request.Transport.TheVariants.{Udp, Tcp}
 use Rattle.dns_primary.specs.declared.event.Effects.{Effects}
@@ -50,8 +51,8 @@ refused_line kind address zone code =
     line (kind ++ codes " " ++ printed_address address ++ codes " " ++ printed_name zone ++ codes " "
     ++ code_word code)
 
--- The line of an update that was done: the number and the serial of the zone's newest version when it had been
--- judged.
+-- The line of an update that was done: the number and the serial of the zone's newest version when it had
+-- been judged.
 abbrev pub asker_text : IpAddr → Labels → List ℕ
 asker_text address origin = codes "update " ++ printed_address address ++ codes " " ++ printed_name origin
 
@@ -79,7 +80,8 @@ full_text origin NotZone = []
 -- The lines of an update of the zone with this name that was refused after a flush.
 abbrev pub denied_text : Labels → HeaderTo → List ℕ
 denied_text origin h =
-    refused_line (codes "update") h.waited.address origin (code_of h.octets) ++ full_text origin h.waited.rcode
+    refused_line (codes "update") h.waited.address origin (code_of h.octets)
+    ++ full_text origin h.waited.rcode
 
 -- What is written of an update that was answered after a flush, and the counts after it. The line of one that
 -- was done is never left out.
@@ -112,7 +114,8 @@ request_said counts address (NotServed m q rcode) code = ([], counts)
 request_said counts address (Query m q) code = ([], counts)
 
 abbrev pub asked_said : Counts → IpAddr → List ℕ → Transport → ℕ → List ℕ × Counts
-asked_said counts address octets transport code = request_said counts address (request_of octets transport) code
+asked_said counts address octets transport code =
+    request_said counts address (request_of octets transport) code
 
 -- The address of the peer of a connection, if it is known.
 abbrev pub known : Option (Option IpAddr) → Option IpAddr

@@ -122,7 +122,8 @@ fn keep_pumped(
     effects: &Effects,
 ) -> io::Result<()>
     ensures { OnOk result (transfers.new
-        ≡ after_pump transfers.old number (open_on transfers.old number) effects.now.message effects.now.noted) }
+        ≡ after_pump transfers.old number (open_on transfers.old number) effects.now.message
+        effects.now.noted) }
 {
     let Some(transfer) = open_on(transfers, number) else {
         return Ok(());

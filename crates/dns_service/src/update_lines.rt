@@ -7,7 +7,8 @@ ghost use Rattle.dns_primary.specs.Steps.{event_shown};
 ghost use Rattle.dns_primary.specs.To.{octets_in};
 ghost use Rattle.dns_service.specs.declared.log.Counts.{Counts as StatedCounts};
 ghost use Rattle.dns_service.specs.Log.{IsAdded};
-ghost use Rattle.dns_service.specs.UpdateLines.{address_on, asked_said, code_of, code_word, event_said, header_said};
+ghost use Rattle.dns_service.specs.UpdateLines.{address_on, asked_said, code_of, code_word, event_said};
+ghost use Rattle.dns_service.specs.UpdateLines.{header_said};
 ghost use Rattle.dns_service.specs.UpdateLines.{headers_said, is_refusal, refusal_said, refused_line};
 ghost use Rattle.dns_service.specs.UpdateLines.{asker_text, denied_text, done_text, full_text, reply_said};
 ghost use Rattle.dns_service.specs.UpdateLines.{update_said, version_text};
@@ -203,8 +204,8 @@ fn add_refused(
     code: u8,
 ) -> io::Result<Counts>
     ensures { IfOk result (λ after.
-        IsAdded (by_verdict (line_verdict false counts) (refused_line kind.now address question.now.name code))
-        lines.old.items lines.new.items after) }
+        IsAdded (by_verdict (line_verdict false counts)
+        (refused_line kind.now address question.now.name code)) lines.old.items lines.new.items after) }
 {
     let Some((is_written, after)) = judge(false, counts) else {
         return Err(ErrorKind::Other.into());

@@ -2,8 +2,8 @@
 //!
 //! A refusal within an event leaves nothing of it, or a flush of an update or a checkpoint; a request is
 //! answered SERVFAIL by a header alone (RFC 1035 section 4.1.1). So what is printed then is what the script
-//! prints that has nothing, or `flush`, in place of that line, and that answer. Any other refusal ends the run,
-//! and what was printed before it is the front of what the script prints.
+//! prints that has nothing, or `flush`, in place of that line, and that answer. Any other refusal ends the
+//! run, and what was printed before it is the front of what the script prints.
 use crate::replaying::{Given, run};
 use crate::{Ended, started};
 use dns_configuration::{DONE, FAILED, File, REFUSED};

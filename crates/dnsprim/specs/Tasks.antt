@@ -51,7 +51,8 @@ abbrev pub ReadsAll : {E : Type 0} → List Input → List ℕ → Result ℕ E 
     → Type 0
 ReadsAll reads path ended P =
     MatchResult ended
-    (λ status. (config : File) × (files : List File) × AreAllRead reads path config files × P config files status)
+    (λ status. (config : File) × (files : List File) × AreAllRead reads path config files
+    × P config files status)
     (λ _. AreFirstRead reads path)
 
 -- First the file of a script was read, and then these; or memory was refused.

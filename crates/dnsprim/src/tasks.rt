@@ -16,7 +16,8 @@ ghost use Rattle.dns_commands.specs.Verify.{VerifyEnds};
 ghost use Rattle.dns_fetch.specs.Connecting.{ConnectsOnce, IsReached};
 ghost use Rattle.dns_fetch.specs.Fetch.{FetchEnds};
 ghost use Rattle.dns_service.specs.Serve.{ServingEnds};
-ghost use Rattle.dnsprim.specs.Tasks.{Dumps, Loads, ReadsAll, ReadsAlone, ReadsScript, ReadsSince, options_of};
+ghost use Rattle.dnsprim.specs.Tasks.{Dumps, Loads, ReadsAll, ReadsAlone, ReadsScript, ReadsSince};
+ghost use Rattle.dnsprim.specs.Tasks.{options_of};
 
 use crate::command::{
     Checking, Diffing, Dumping, Fetching, Listing, Loading, Making, Replaying, Serving, Verifying,
