@@ -13,6 +13,7 @@ pub mod Queue
 pub mod Steps
 pub mod Sending
 pub mod Fresh
+pub mod Fullness
 pub mod Open
 pub mod HandOut
 pub mod Runs

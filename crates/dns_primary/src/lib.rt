@@ -7,6 +7,7 @@ mod connections;
 mod effects;
 mod event;
 mod flush;
+mod fullness;
 mod laws;
 mod open;
 mod primary;
@@ -18,6 +19,7 @@ mod update;
 mod waits;
 
 pub use event::{Effects, Event, HeaderTo, Noted, Peer, Reply, ReplyOctets, To, Waiting};
+pub use fullness::Fullness;
 pub use laws::{
     fresh_law, replies_wait_law, resumed_law, servfail_law, stop_law, transfers_law, versions_law,
 };
