@@ -549,11 +549,12 @@ class Store:
 
     def root(self, bank_opened, length):
         apex = plain_name(self.apex)
-        payload = struct.pack(">QQIIB", bank_opened, length, self.s, self.j, 1) + apex
+        payload = struct.pack(">QQIIB", bank_opened, length, self.s, self.j, self.clear) + apex
         return sector(0, b"DPR2", self.opened, self.base, self.bank, payload)
 
     def format(self, records):
         self.opened = self.base = self.bank = 0
+        self.clear = 1
         octets = snapshot_octets(records)
         self.device.write(0, bytes(512))
         self.device.sync()
@@ -576,12 +577,12 @@ class Store:
         assert is_own(at, octets), "a sector that is not sealed"
         return octets
 
-    def open(self):
-        """The number of the base, and the sets from the base on."""
-        self.device.sync()
+    def look(self):
+        """The number of the base, and the sets from the base on. Nothing is written."""
         root = self.read(0)
         assert root[:4] == b"DPR2"
         self.opened, self.base, self.bank, bank_opened, length = struct.unpack(">QQIQQ", root[4:40])
+        self.clear = root[48]
         octets = b"".join(self.read(self.first(self.bank) + it)[24:504] for it in range(snapshot_sectors(length)))[:length]
         records, at = {}, 0
         while at < length:
@@ -603,10 +604,20 @@ class Store:
             self.entries.append(octets[:size])
             place += taken
         self.used, self.staged, self.bank_opened, self.length = place, [], bank_opened, length
-        self.opened += 1
-        self.device.write(0, self.root(bank_opened, length))
-        self.device.sync()
         return self.base, sets
+
+    def open(self):
+        self.device.sync()
+        found = self.look()
+        if not self.clear:
+            for at in range(self.s + self.j):
+                self.device.write(self.first(1 - self.bank) + at, bytes(512))
+            self.device.sync()
+            self.clear = 1
+        self.opened += 1
+        self.device.write(0, self.root(self.bank_opened, self.length))
+        self.device.sync()
+        return found
 
     def left(self):
         return self.j - self.used - sum(entry_sectors(len(it)) for it in self.staged)

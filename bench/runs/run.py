@@ -15,8 +15,13 @@ LABELS = [b"a", b"b", b"www", b"*", b"ns", b"sub", b"_tcp", b"x-1"]
 HOSTS = ["127.0.0.1", "192.0.2.7", "10.1.2.3", "::1", "2001:db8::5"]
 
 
+def escaped(octets, marked, least):
+    """Octets in print: some after a backslash, and those that aren't visible by their number."""
+    return "".join(f"\\{chr(it)}" if it in marked else chr(it) if least <= it < 127 else f"\\{it:03}" for it in octets)
+
+
 def text_of(name):
-    return "".join(it.decode() + "." for it in name) or "."
+    return "".join(escaped(it, b'.\\"();@$', 33) + "." for it in name) or "."
 
 
 class Maker:
@@ -225,8 +230,9 @@ def printed(record):
     elif rtype == TXT:
         words, at = "", 0
         while at < len(data):
-            words += ' "' + data[at + 1 : at + 1 + data[at]].decode() + '"'
+            words += ' "' + escaped(data[at + 1 : at + 1 + data[at]], b'\\"', 32) + '"'
             at += 1 + data[at]
+        words = words[1:]
     elif rtype in NINE:
         front = {MX: 2, SRV: 6}.get(rtype, 0)
         numbers = struct.unpack(f">{front // 2}H", data[:front])
@@ -236,7 +242,7 @@ def printed(record):
             second, at = model.read_plain(data, at)
             words += " " + text_of(second) + " " + " ".join(map(str, struct.unpack(">5I", data[at:])))
     else:
-        words = f"\\# {len(data)} {data.hex()}"
+        words = f"\\# {len(data)} {data.hex()}".rstrip()
     return f"{text_of(owner)} {ttl} IN {NINE.get(rtype, f'TYPE{rtype}')} {words}\n"
 
 

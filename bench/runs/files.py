@@ -1,0 +1,835 @@
+#!/usr/bin/env python3
+"""Random lists of commands over files, made up from a seed, and what the program does beside what the plain machine of `model.py` does:
+`init`, `serve` with updates, queries and transfers over loopback, `load`, `load --dry-run`, `dump`, `verify`, `history`, `diff`, `fetch`,
+and `migrate` of devices of format 1 that are encoded here.
+
+`files.py PROGRAM FIRST COUNT` runs the seeds FIRST to FIRST + COUNT - 1. It prints what differs in a run, and at the end how many agree; it
+ends with 0 if all do. A run that differs is kept in /tmp/files-SEED with its commands and devices.
+
+Most commands run to their end: then the status, both outputs, each reply, and each octet of each device have to be the model's. In others
+strace kills the program as it begins its n-th write, sync or reply, or has its n-th write or sync fail. After a kill the devices have to be
+what the first writes of the model's leave, in order, and each zone its loaded records after a first part of the accepted updates and loads,
+which holds all that was answered NOERROR, told as loaded, or shown. A transfer that was asked with a serial that was served is also applied
+here, by the rules of RFC 1995 and 5936, and has to come to the version that is shown. It needs strace.
+"""
+import os
+import select
+import shutil
+import signal
+import socket
+import struct
+import subprocess
+import sys
+import tempfile
+import time
+
+import model
+from model import AXFR, IN, IXFR, NS, SOA, change_of, greater, plain_name, serial_of, soa_of
+from run import Maker, prefix_text, printed
+
+CALLS = {"write": "pwrite64", "sync": "fdatasync", "reply": "sendto"}
+ADDRESSES = ["127.0.0.1", "127.0.0.2"]
+PATIENCE = 20
+
+
+class Differs(Exception):
+    pass
+
+
+def expect(what, came, wanted):
+    if came != wanted:
+        raise Differs(f"{what}\n  wanted {str(wanted)[:600]}\n  came   {str(came)[:600]}")
+
+
+# Devices as files: their sectors, and a list of the writes of a command over all of them.
+
+
+class Log:
+    def begin(self, fail=None):
+        self.writes, self.counts, self.fail = [], {"write": 0, "sync": 0}, fail
+
+    def tick(self, kind):
+        self.counts[kind] += 1
+        if self.fail == (kind, self.counts[kind]):
+            raise model.Failed
+
+
+class File:
+    """A device. What was written is there, whether a sync follows or not: a program that is killed takes nothing back."""
+
+    def __init__(self, size, log):
+        self.now, self.log = [bytes(512)] * size, log
+
+    def write(self, at, octets):
+        self.log.tick("write")
+        self.now[at] = octets
+        self.log.writes.append((self, at, octets))
+
+    def sync(self):
+        self.log.tick("sync")
+
+    def read(self, at):
+        return self.now[at]
+
+    def copy(self):
+        other = File(0, Log())
+        other.log.begin()
+        other.now = list(self.now)
+        return other
+
+
+# Format 1.
+
+
+def old_sector(tag, opened, sequence, number, payload):
+    assert len(payload) <= 488
+    return (tag + struct.pack(">QQI", opened, sequence, number) + payload).ljust(512, b"\0")
+
+
+def old_entry_sectors(length):
+    return 1 + max(0, -(-(length - 484) // 488))
+
+
+class Zone(model.Zone):
+    def __init__(self, number, spec, records, log):
+        self.spec, self.apex, self.origin = spec, spec["apex"], spec["origin"]
+        self.file, self.path = f"{number}.zone", f"{number}.dev"
+        self.device = File(1 + 2 * (spec["s"] + spec["j"]), log)
+        self.versions, self.shown, self.acknowledged, self.old = [records], 0, 0, None
+
+    def over(self, device):
+        return model.Store(device, self.apex, self.spec["s"], self.spec["j"])
+
+    def format(self):
+        self.over(self.device).format(self.versions[0])
+
+    def soa(self, version=-1):
+        return soa_of(self.versions[version], self.apex)
+
+    def look(self):
+        """The store as a start would find it, and the number of its newest version."""
+        store = self.over(self.device.copy())
+        base, sets = store.look()
+        return store, base + len(sets) - 1, sets
+
+    def settle(self):
+        """Which versions the device has: a first part of the accepted ones, with all that is known to be durable."""
+        if self.old:
+            newest = len(self.versions) - 1
+        else:
+            store, newest, sets = self.look()
+            if sets != self.versions[store.base : newest + 1]:
+                raise Differs(f"{self.origin}: the versions from {store.base} to {newest} are not the accepted ones")
+        if newest < max(self.shown, self.acknowledged):
+            raise Differs(f"{self.origin}: version {newest} is there, shown were {self.shown}, told {self.acknowledged}")
+        del self.versions[newest + 1 :]
+        self.shown = self.acknowledged = newest
+
+    def entry(self, version):
+        return model.entry_octets(change_of(self.versions[version - 1], self.versions[version], self.apex))
+
+    def age(self, maker):
+        """Turns the device to format 1, with as much of its history as may be there, and remains of other times where nothing is read."""
+        newest, s, j = len(self.versions) - 1, self.spec["s"], self.spec["j"]
+        most, used = 0, 0
+        while most < newest and used + old_entry_sectors(len(self.entry(newest - most))) <= j:
+            used += old_entry_sectors(len(self.entry(newest - most)))
+            most += 1
+        base, bank = newest - maker.random.randint(0, most), maker.random.randrange(2)
+        written = maker.random.randrange(5)
+        opened = written + maker.random.randrange(5)
+        octets = model.snapshot_octets(self.versions[base])
+        root = struct.pack(">QQII", written, len(octets), s, j) + plain_name(self.apex)
+        made = [maker.random.choice([bytes(512), b"DPB1" + maker.random.randbytes(508)]) for _ in range(s + j)]
+        for number, at in enumerate(range(0, len(octets), 488)):
+            made[number] = old_sector(b"DPS1", written, base, number, octets[at : at + 488])
+        place, count = s, written
+        for version in range(base + 1, newest + 1):
+            octets, count = self.entry(version), maker.random.randint(count, opened)
+            bodies = [octets[at : at + 488] for at in range(484, len(octets), 488)]
+            made[place] = old_sector(b"DPH1", count, version, len(bodies), struct.pack(">I", len(octets)) + octets[:484])
+            for number, body in enumerate(bodies):
+                made[place + 1 + number] = old_sector(b"DPB1", count, version, number, body)
+            place += 1 + len(bodies)
+        other = [maker.random.choice([bytes(512), b"DPS1" + maker.random.randbytes(508)]) for _ in range(s + j)]
+        self.device.now = [old_sector(b"DPR1", opened, base, bank, root), *(made + other if bank == 0 else other + made)]
+        self.old = {"opened": opened, "base": base, "bank": bank}
+
+    def migrate(self):
+        self.device.sync()
+        if self.old is None:
+            return f"{self.origin} already\n"
+        newest, s, j = len(self.versions) - 1, self.spec["s"], self.spec["j"]
+        kept, used = 0, 0
+        while newest - kept > self.old["base"]:
+            used += model.entry_sectors(len(self.entry(newest - kept)))
+            if used > j or model.snapshot_sectors(len(model.snapshot_octets(self.versions[newest - kept - 1]))) > s:
+                break
+            kept += 1
+        store = self.over(self.device)
+        store.opened, store.base, store.bank, store.clear = self.old["opened"] + 1, newest - kept, 1 - self.old["bank"], 0
+        octets = model.snapshot_octets(self.versions[store.base])
+        parts = store.parts(store.bank, octets, store.opened, store.base)
+        sectors = parts + [bytes(512)] * (s - len(parts))
+        for version in range(store.base + 1, newest + 1):
+            head, bodies = store.entry(store.first(store.bank) + len(sectors), self.entry(version), version)
+            sectors += [head, *bodies]
+        for at in range(s + j):
+            self.device.write(store.first(store.bank) + at, sectors[at] if at < len(sectors) else bytes(512))
+        self.device.sync()
+        self.device.write(0, store.root(store.opened, len(octets)))
+        self.device.sync()
+        for at in range(s + j):
+            self.device.write(store.first(1 - store.bank) + at, bytes(512))
+        self.device.sync()
+        store.clear = 1
+        self.device.write(0, store.root(store.opened, len(octets)))
+        self.device.sync()
+        self.old = None
+        return f"migrated {self.origin} version {newest} serial {serial_of(self.soa())}\n"
+
+    # What is printed.
+
+    def advances(self, version):
+        """How far the serial goes from a version to the newest."""
+        serials = self.serials()[version:]
+        return sum((b - a) % 2**32 for a, b in zip(serials, serials[1:]))
+
+    def journalled(self):
+        return [it for it in range(self.store.base, len(self.versions)) if self.advances(it) < 2**31]
+
+    def with_serial(self, serial):
+        return next((it for it in self.journalled() if self.serials()[it] == serial), None)
+
+    def between(self, old, new):
+        """The lines of a change, and how many records go and come."""
+        before, gone, after, come = change_of(old, new, self.apex)
+        lines = ["- " + printed(it) for it in (before, *gone)] + ["+ " + printed(it) for it in (after, *come)]
+        return "".join(lines), len(gone), len(come)
+
+
+def zone_text(records, apex):
+    soa = soa_of(records, apex)
+    return "".join(map(printed, [soa, *(it for it in model.in_order(records) if it[1] != SOA)]))
+
+
+class Refused(Exception):
+    """A command ends so: its status, and the line on standard error."""
+
+
+class Machine(model.Machine):
+    def __init__(self, zones):
+        self.plan, self.zones = model.Plan(), zones
+        self.begin()
+
+    def open(self, zone):
+        if zone.old:
+            raise Refused(1, f"{zone.path}: OldFormat")
+        try:
+            zone.open()
+        except model.Failed:
+            raise Refused(3, f"{zone.path}: Device")
+
+    def known(self):
+        """What is durable of each zone as soon as the reply that comes now is seen."""
+        return [(it.shown, it.acknowledged) for it in self.zones]
+
+    def turn(self, *lines):
+        """What goes out in a turn: the lines, each with what is known by it."""
+        out = []
+        for line in lines:
+            out += [(it, self.known()) for it in self.run(line)]
+        for number, it in self.connections.items():
+            while it["messages"]:
+                out += [(it, self.known()) for it in self.run(f"pump {number}")]
+        if self.waiting:
+            out += [(it, self.known()) for it in self.run("flush")]
+        return [it for it in out if not it[0].startswith(("device ", "conn "))]
+
+
+# A client of transfers, written apart from the model's own answers.
+
+
+def followed(apex, held, messages):
+    """The set that the answer to one who holds a set, or nothing, comes to."""
+    records = [(it[0], it[1], it[3], it[4]) for octets in messages for it in model.Message(octets).sections[0]]
+    first = records[0]
+    if len(records) == 1:
+        assert held is not None and not greater(serial_of(first), serial_of(soa_of(held, apex))), "a SOA alone, which is newer"
+        return held
+    assert records[-1] == first and records[0][:2] == (apex, SOA), "the SOA is not the first and the last"
+    if held is None or records[1][1] != SOA:
+        made = {}
+        for owner, rtype, ttl, data in records[:-1]:
+            assert (owner, rtype, data) not in made, "a record comes twice"
+            made[owner, rtype, data] = ttl
+        return made
+    made, at = dict(held), 1
+    while at < len(records) - 1:
+        for adds in (False, True):
+            soa = records[at]
+            assert soa[1] == SOA, "a sequence begins without a SOA"
+            if not adds:
+                assert made.pop((soa[0], SOA, soa[3])) == soa[2]
+            else:
+                made[soa[0], SOA, soa[3]] = soa[2]
+            at += 1
+            while records[at][1] != SOA:
+                owner, rtype, ttl, data = records[at]
+                if adds:
+                    assert (owner, rtype, data) not in made, "what is added is there"
+                    made[owner, rtype, data] = ttl
+                else:
+                    assert made.pop((owner, rtype, data)) == ttl
+                at += 1
+    assert soa_of(made, apex) == first
+    return made
+
+
+class Runner:
+    def __init__(self, program, seed, folder):
+        self.program, self.folder, self.maker = program, folder, Maker(seed)
+        self.random, self.log, self.done, self.counts = self.maker.random, Log(), [], {"commands": 0, "kills": 0, "failures": 0, "requests": 0}
+        self.log.begin()
+        made = self.maker.specs()
+        self.zones = [Zone(number, spec, records, self.log) for number, (spec, records) in enumerate(made)]
+        self.machine = Machine(self.zones)
+        for zone in self.zones:
+            self.write(zone.file, zone_text(zone.versions[0], zone.apex))
+        self.settings()
+        self.configure()
+
+    def write(self, name, text):
+        with open(f"{self.folder}/{name}", "w") as it:
+            it.write(text)
+
+    def settings(self):
+        """Other values of what may change with each start."""
+        lists = [[(4, bytes(4), 0), (6, bytes(16), 0)], [(4, bytes([127, 0, 0, 0]), 8)], [(4, bytes([127, 0, 0, 2]), 32)], []]
+        for zone in self.zones:
+            zone.spec["keep"] = self.random.choice([0, 1, 2, 4, 9, 70])
+            zone.spec["update"], zone.spec["transfer"] = (self.random.choices(lists, [9, 4, 2, 0.5])[0] for _ in range(2))
+
+    def configure(self):
+        with socket.socket() as it:
+            it.bind(("127.0.0.1", 0))
+            self.port = it.getsockname()[1]
+        text = f'listen = "127.0.0.1:{self.port}"\n'
+        for zone in self.zones:
+            text += f'[[zone]]\norigin = "{zone.origin}"\nfile = "{zone.file}"\ndevice = "{zone.path}"\n'
+            text += f"snapshot_sectors = {zone.spec['s']}\njournal_sectors = {zone.spec['j']}\nkeep = {zone.spec['keep']}\n"
+            for key in ("update", "transfer"):
+                text += f"{key} = [{', '.join(map(prefix_text, zone.spec[key]))}]\n"
+        self.write("config", text)
+
+    # A command: the model's effect, the program's, and the devices after both.
+
+    def interruption(self, calls):
+        """Now and then a call that the program is killed at, or that fails. `calls` counts those that the model made."""
+        kinds = [it for it, count in calls.items() if count]
+        if kinds:
+            kind = self.random.choice(kinds)
+            return kind, self.random.randint(1, calls[kind] + (self.random.random() < 0.1))
+        return None
+
+    def before(self, kill, fail):
+        if kill:
+            return ["strace", "-D", "-f", "-o", "/dev/null", "-e", f"trace={CALLS[kill[0]]}", "-e", f"inject={CALLS[kill[0]]}:signal=SIGKILL:when={kill[1]}"]
+        if fail:
+            return ["strace", "-D", "-f", "-o", "/dev/null", "-e", f"trace={CALLS[fail[0]]}", "-e", f"inject={CALLS[fail[0]]}:error=EIO:when={fail[1]}"]
+        return []
+
+    def fails(self, most):
+        if self.random.random() < 0.12:
+            self.counts["failures"] += 1
+            return self.random.choice(["write", "sync"]), self.random.randint(1, most)
+        return None
+
+    def command(self, *words, effect, may_fail=True, may_kill=True, most=4):
+        """Runs a command to its end or a kill. `effect` is the model's, and gives what is printed."""
+        self.counts["commands"] += 1
+        begun, fail = [list(it.device.now) for it in self.zones], self.fails(most) if may_fail else None
+        old = [it.old for it in self.zones]
+        known = self.machine.known()
+        self.log.begin(fail)
+        out = []
+        try:
+            for piece in effect():
+                out.append(piece)
+            wanted = (0, "".join(out), "")
+        except Refused as it:
+            wanted = (it.args[0], "".join(out), it.args[1] + "\n")
+        kill = self.interruption(self.log.counts) if may_kill and not fail and self.random.random() < 0.2 else None
+        self.done.append(f"{' '.join(words)}" + (f" killed at {kill}" if kill else "") + (f" failed at {fail}" if fail else ""))
+        ran = subprocess.run([*self.before(kill, fail), self.program, *words], cwd=self.folder, capture_output=True, text=True, timeout=120)
+        came = ran.returncode, ran.stdout, ran.stderr
+        is_killed = kill is not None and ran.returncode == -signal.SIGKILL
+        if is_killed:
+            self.counts["kills"] += 1
+            if not wanted[1].startswith(came[1]):
+                raise Differs(f"{words}: printed {came[1]!r} before it was killed")
+            # What a load told is told, but not what it would have.
+            for zone, (shown, acknowledged) in zip(self.zones, known):
+                if not came[1]:
+                    zone.shown, zone.acknowledged = shown, acknowledged
+        else:
+            expect(" ".join(words), came, wanted)
+        self.adopt(begun, is_killed, old)
+
+    def sectors(self, zone):
+        with open(f"{self.folder}/{zone.path}", "rb") as it:
+            octets = it.read()
+        expect(f"the length of {zone.path}", len(octets), 512 * len(zone.device.now))
+        return [octets[at : at + 512] for at in range(0, len(octets), 512)]
+
+    def adopt(self, begun, is_partly, old):
+        """The devices are as the model's, or as a first part of its writes leaves them. Then each zone is as its device has it."""
+        came = [self.sectors(it) for it in self.zones]
+        if is_partly:
+            different = {(n, at) for n, it in enumerate(begun) for at in range(len(it)) if it[at] != came[n][at]}
+            places = {id(it.device): n for n, it in enumerate(self.zones)}
+            for device, at, octets in self.log.writes:
+                if not different:
+                    break
+                number = places[id(device)]
+                (different.discard if came[number][at] == octets else different.add)((number, at))
+            if different:
+                raise Differs(f"after a kill the devices are none that the model's writes leave: {sorted(different)[:20]}")
+        else:
+            for zone, sectors in zip(self.zones, came):
+                wrong = [at for at, octets in enumerate(sectors) if octets != zone.device.now[at]]
+                if wrong:
+                    at = wrong[0]
+                    expect(f"{zone.path}: sectors {wrong[:20]}, the first", sectors[at].hex(), zone.device.now[at].hex())
+        for zone, sectors, it in zip(self.zones, came, old):
+            zone.device.now = sectors
+            zone.old = it if sectors[0][:4] == b"DPR1" else None
+            zone.settle()
+
+    # The commands.
+
+    def any_zone(self):
+        return self.random.choice(self.zones)
+
+    def init(self):
+        def effect():
+            for zone in self.zones:
+                zone.format()
+                yield f"formatted {zone.origin} serial {serial_of(zone.soa())}\n"
+
+        self.command("init", "config", effect=effect, may_fail=False, may_kill=False)
+
+    def again(self):
+        """`init` of what is there changes nothing."""
+
+        def effect():
+            raise Refused(1, f"{self.zones[0].path}: Exists")
+            yield
+
+        self.command("init", "config", effect=effect, may_fail=False, may_kill=False)
+
+    def dump(self):
+        zone = self.any_zone()
+
+        def effect():
+            self.machine.open(zone)
+            yield zone_text(zone.versions[-1], zone.apex)
+
+        self.command("dump", "config", zone.origin, effect=effect)
+
+    def some_serial(self, zone):
+        return self.maker.pick((self.random.choice(zone.serials()), 8), (self.maker.some_serial(), 1))
+
+    def dump_at(self):
+        zone = self.any_zone()
+        serial = self.some_serial(zone)
+
+        def effect():
+            self.machine.open(zone)
+            version = zone.with_serial(serial)
+            if version is None:
+                raise Refused(1, f"{serial}: NoVersion")
+            yield zone_text(zone.versions[version], zone.apex)
+
+        self.command("dump", "config", zone.origin, "--serial", str(serial), effect=effect)
+
+    def diff(self):
+        zone = self.any_zone()
+        serials = [self.some_serial(zone) for _ in range(self.random.randint(1, 2))]
+
+        def effect():
+            self.machine.open(zone)
+            found = [zone.with_serial(it) for it in serials]
+            for serial, version in zip(serials, found):
+                if version is None:
+                    raise Refused(1, f"{serial}: NoVersion")
+            old, new = found if len(found) == 2 else (*found, -1)
+            old, new = zone.versions[old], zone.versions[new]
+            yield zone.between(old, new)[0] if old != new else f"{zone.origin} unchanged\n"
+
+        self.command("diff", "config", zone.origin, *map(str, serials), effect=effect)
+
+    def history(self):
+        zone = self.any_zone()
+
+        def effect():
+            self.machine.open(zone)
+            for place, version in enumerate(zone.journalled()):
+                line = f"version {version} serial {zone.serials()[version]}"
+                if place:
+                    _, gone, come = zone.between(zone.versions[version - 1], zone.versions[version])
+                    line += f", {come} added, {gone} removed"
+                yield line + "\n"
+
+        self.command("history", "config", zone.origin, effect=effect)
+
+    def verify(self):
+        zones = self.maker.pick((self.zones, 3), ([self.any_zone()], 2))
+        is_whole = not any(it.old for it in zones) and all(it.look()[0].clear for it in zones)
+        words = [zones[0].origin] if len(zones) < len(self.zones) else []
+        words += ["--every-sector"] if is_whole and self.random.random() < 0.5 else []
+
+        def effect():
+            faults = []
+            for zone in zones:
+                if zone.old:
+                    faults.append(f"{zone.path}: OldFormat")
+                    continue
+                store, newest, sets = zone.look()
+                yield (
+                    f"{zone.origin} version {newest} serial {serial_of(zone.soa())} records {len(sets[-1])} entries {len(sets) - 1} "
+                    f"sectors-left {zone.spec['j'] - store.used} openings {store.opened}\n"
+                )
+            if faults:
+                raise Refused(1, "\n".join(faults))
+
+        self.command("verify", "config", *words, effect=effect, may_fail=False, may_kill=False)
+
+    def migrate(self):
+        for zone in self.zones:
+            if self.random.random() < 0.6 and not zone.old:
+                zone.age(self.maker)
+                with open(f"{self.folder}/{zone.path}", "wb") as it:
+                    it.write(b"".join(zone.device.now))
+                self.done.append(f"{zone.path} is turned to format 1: {zone.old}")
+        for _ in range(self.random.randrange(2)):
+            self.random.choice([self.dump, self.load, self.history, self.verify, self.serve])()
+
+        def effect():
+            for zone in self.zones:
+                try:
+                    line = zone.migrate()
+                except model.Failed:
+                    raise Refused(3, f"{zone.path}: Device")
+                yield line
+
+        while any(it.old for it in self.zones) or self.random.random() < 0.3:
+            self.command("migrate", "config", effect=effect, most=60)
+
+    def load(self):
+        zone, maker = self.any_zone(), self.maker
+        newest, apex = zone.versions[-1], zone.apex
+        records, soa = dict(newest), soa_of(newest, apex)
+        how = maker.pick(("same", 1), ("small", 6), ("new", 2), ("no NS", 0.5), ("older", 1))
+        if how != "same":
+            maker.serial = serial_of(soa)
+            if how == "new":
+                records = maker.zone(apex)
+            for _ in range(self.random.choice([1, 2, 5])):
+                owner, rtype, data = self.random.choice(list(records))
+                if rtype not in (SOA, NS):
+                    records[owner, rtype, data] = records.pop((owner, rtype, data)) + self.random.randrange(2)
+                    if self.random.random() < 0.4:
+                        del records[owner, rtype, data]
+            for (owner, rtype, data), ttl in maker.zone(apex).items() if self.random.random() < 0.5 else ():
+                types = {t for o, t, _ in records if o == owner} | {rtype}
+                if rtype not in (SOA, NS) and (model.CNAME not in types or (owner, rtype, data) in records):
+                    records[owner, rtype, data] = ttl
+            serial = (serial_of(soa) + maker.pick((1, 8), (5, 2), (2**31 - 1, 0.2))) % 2**32 if how != "older" else (serial_of(soa) - maker.pick((0, 3), (1, 1))) % 2**32
+            records = {it: ttl for it, ttl in records.items() if it[1] != SOA}
+            made = model.with_serial(soa, serial)
+            records[apex, SOA, made[3]] = made[2]
+        if how == "no NS":
+            records = {it: ttl for it, ttl in records.items() if it[:2] != (apex, NS)}
+        self.write(zone.file, zone_text(records, apex))
+        is_dry = self.random.random() < 0.3
+
+        def effect():
+            if how == "no NS":
+                raise Refused(1, f"{zone.file}: NoNs")
+            self.machine.open(zone)
+            if records == newest:
+                yield f"{zone.origin} already\n"
+                return
+            if not greater(serial_of(soa_of(records, apex)), serial_of(soa)):
+                raise Refused(1, f"{zone.file}: SerialNotRaised")
+            entry = model.entry_octets(change_of(newest, records, apex))
+            size = model.entry_sectors(len(entry))
+            if size > zone.spec["j"] or model.snapshot_sectors(len(model.snapshot_octets(records))) > zone.spec["s"]:
+                raise Refused(1, f"{zone.path}: NoRoom")
+            lines, gone, come = zone.between(newest, records)
+            if is_dry:
+                yield lines
+                return
+            if size > zone.store.left() and not zone.store.checkpoint(zone.spec["keep"], size, lambda it: zone.versions[it]):
+                raise Refused(3, f"{zone.path}: Device")
+            zone.store.stage(entry)
+            zone.versions.append(records)
+            if not zone.store.flush():
+                raise Refused(3, f"{zone.path}: Device")
+            zone.shown = zone.acknowledged = len(zone.versions) - 1
+            yield f"loaded {zone.origin} version {zone.shown} serial {serial_of(zone.soa())}, {come} added, {gone} removed\n"
+
+        self.command("load", "config", zone.origin, *(["--dry-run"] if is_dry else []), effect=effect, most=8)
+
+    # Serving.
+
+    def steps(self):
+        """What is asked, step by step, and what is to come by each socket. The model has done it when this ends."""
+        machine, steps = self.machine, []
+
+        def step(sends, out, together=False, follows=(), fetch=None):
+            wants = {}
+            for line, known in out:
+                word, number, octets = line.split()
+                wants.setdefault((word, number), []).append((bytes.fromhex(octets), known))
+            self.counts["requests"] += len(sends)
+            steps.append({"sends": sends, "wants": wants, "together": together, "follows": follows, "fetch": fetch})
+
+        def ask(socket_of, octets):
+            return f"{socket_of[0]} {socket_of[1]} {octets.hex()}"
+
+        udp, tcp = [("udp", it) for it in ADDRESSES], [("tcp", str(it)) for it in range(3)]
+        for it in tcp:
+            machine.run(f"connect {ADDRESSES[int(it[1]) % 2]}")
+            octets = self.maker.query()
+            step([(it, octets)], machine.turn(ask(it, octets)))
+        for _ in range(self.random.choice([2, 6, 15])):
+            how = self.maker.pick(("burst", 6), ("together", 2), ("transfers", 1.5), ("fetch", 0.5))
+            if how == "burst":
+                it = self.random.choice(udp + tcp)
+                octets = [self.maker.request(machine)[:65535] for _ in range(self.random.choice([1, 1, 3, 8]))]
+                out = [line for one in octets for line in machine.turn(ask(it, one))]
+                step([(it, one) for one in octets], out)
+            elif how == "together":
+                sends = []
+                for it in [self.random.choice(udp), *tcp]:
+                    if self.random.random() < 0.8:
+                        sends.append((it, self.maker.update(machine) if self.random.random() < 0.8 else self.maker.query()))
+                step(sends, machine.turn(*(ask(*it) for it in sends)), together=True)
+            elif how == "transfers":
+                zone, it = self.any_zone(), self.random.choice(tcp)
+                versions = sorted({0, zone.shown, *self.random.choices(range(zone.shown + 1), k=8)})
+                for version in [None, *versions]:
+                    octets = self.asked(zone, version)
+                    out = machine.turn(ask(it, octets))
+                    is_given = len(out) > 0 and all(bytes.fromhex(line.split()[2])[3] & 15 == 0 for line, _ in out)
+                    follow = is_given and (version is None or zone.advances(version) < 2**31)
+                    held = None if version is None else zone.versions[version]
+                    step([(it, octets)], out, follows=[(it, zone.apex, held, zone.versions[zone.shown])] if follow else ())
+            else:
+                zone = self.any_zone()
+                if model.allows(zone.spec["transfer"], (4, bytes([127, 0, 0, 1]))):
+                    version = self.maker.pick((None, 2), (self.random.randrange(zone.shown + 1), 3))
+                    if version is None or zone.advances(version) < 2**31:
+                        file = None if version is None else zone_text(zone.versions[version], zone.apex)
+                        step([], [], fetch=(zone.origin, file, zone_text(zone.versions[zone.shown], zone.apex)))
+        return steps
+
+    def asked(self, zone, version):
+        """The request of one who holds a version, or nothing."""
+        ident = self.random.randrange(65536)
+        if version is None:
+            return self.maker.message(ident, 0, (zone.apex, AXFR, IN), [[], []])
+        owner, rtype, ttl, data = soa_of(zone.versions[version], zone.apex)
+        return self.maker.message(ident, 0, (zone.apex, IXFR, IN), [[], [(owner, rtype, IN, ttl, data)]])
+
+    def serve(self):
+        self.counts["commands"] += 1
+        if self.random.random() < 0.5:
+            self.settings()
+        self.configure()
+        begun, fail = [list(it.device.now) for it in self.zones], self.fails(25)
+        old = [it.old for it in self.zones]
+        known = self.machine.known()
+        self.log.begin(fail)
+        self.machine.begin()
+        refused, steps = None, []
+        try:
+            for zone in self.zones:
+                self.machine.open(zone)
+            steps = self.steps()
+        except Refused as it:
+            refused = it.args
+        calls = {**self.log.counts, "reply": sum(len(it) for step in steps for it in step["wants"].values())}
+        kill = self.interruption(calls) if not fail and refused is None and self.random.random() < 0.4 else None
+        self.done.append(f"serve {len(steps)} steps" + (f" killed at {kill}" if kill else "") + (f" failed at {fail}" if fail else ""))
+        for zone, (shown, acknowledged) in zip(self.zones, known):
+            zone.shown, zone.acknowledged = shown, acknowledged
+        words = [*self.before(kill, fail), self.program, "serve", "config", "--turns", "unlimited"]
+        with open(f"{self.folder}/log", "wb") as log:
+            server = subprocess.Popen(words, cwd=self.folder, stderr=log)
+        try:
+            is_partly = self.play(server, steps, refused, kill is not None)
+        finally:
+            if server.poll() is None:
+                server.send_signal(self.random.choice([signal.SIGKILL, signal.SIGTERM]))
+            server.wait()
+        self.counts["kills"] += is_partly
+        self.adopt(begun, is_partly or refused is not None, old)
+
+    def play(self, server, steps, refused, may_end):
+        """Asks what is to be asked. Whether the server was killed meanwhile."""
+        deadline = time.monotonic() + PATIENCE
+        while True:
+            text = open(f"{self.folder}/log").read()
+            has_ended = server.poll() is not None
+            if has_ended or "listening on " in text:
+                break
+            if time.monotonic() > deadline:
+                raise Differs(f"serve: it doesn't listen: {text}")
+            time.sleep(0.005)
+        if refused:
+            server.wait(PATIENCE)
+            expect("serve", (server.returncode, open(f"{self.folder}/log").read().splitlines()[-1:]), (refused[0], [refused[1]]))
+            return False
+        sockets = {}
+        try:
+            for place in ADDRESSES if not has_ended else ():
+                it = sockets["udp", place] = socket.socket(socket.AF_INET, socket.SOCK_DGRAM)
+                it.bind((place, 0))
+                it.connect(("127.0.0.1", self.port))
+            for number, step in enumerate(steps):
+                if not has_ended:
+                    has_ended = self.step(server, sockets, step, number, may_end)
+            if has_ended:
+                server.wait(PATIENCE)
+                if not may_end or server.returncode != -signal.SIGKILL:
+                    raise Differs(f"serve ended with status {server.returncode}: {open(f'{self.folder}/log').read()[-300:]}")
+            return has_ended
+        finally:
+            for it in sockets.values():
+                it.close()
+
+    def step(self, server, sockets, step, number, may_end):
+        """One step. Whether the server has ended."""
+        if step["fetch"]:
+            return self.fetch(server, *step["fetch"], may_end)
+        try:
+            if step["together"]:
+                time.sleep(0.05)
+                server.send_signal(signal.SIGSTOP)
+            for place, octets in step["sends"]:
+                if place not in sockets:
+                    it = sockets[place] = socket.create_connection(("127.0.0.1", self.port), 5, (ADDRESSES[int(place[1]) % 2], 0))
+                    it.setsockopt(socket.IPPROTO_TCP, socket.TCP_NODELAY, 1)
+                sockets[place].sendall(octets if place[0] == "udp" else struct.pack(">H", len(octets)) + octets)
+        except OSError:
+            pass
+        finally:
+            if step["together"]:
+                time.sleep(0.01)
+                server.send_signal(signal.SIGCONT)
+        has_ended = False
+        for place, wanted in step["wants"].items():
+            came = self.receive(server, sockets.get(place), place[0], len(wanted))
+            expect(f"step {number}: {place}: {[it[1].hex() for it in step['sends']][:9]}", [it.hex() for it in came], [it[0].hex() for it in wanted[: len(came)]])
+            for _, known in wanted[: len(came)]:
+                for zone, (shown, acknowledged) in zip(self.zones, known):
+                    zone.shown, zone.acknowledged = max(zone.shown, shown), max(zone.acknowledged, acknowledged)
+            if len(came) < len(wanted):
+                if server.poll() is None:
+                    raise Differs(f"step {number}: {place}: {len(came)} of {len(wanted)} replies came")
+                has_ended = True
+            else:
+                for where, apex, held, shown in step["follows"]:
+                    if where == place and followed(apex, held, came) != shown:
+                        raise Differs(f"step {number}: the transfer doesn't come to the version that is shown")
+        return has_ended or server.poll() is not None
+
+    def receive(self, server, sock, kind, count):
+        """So many messages of a socket, or as many as come before the server has ended."""
+        made, octets, deadline, last = [], b"", time.monotonic() + PATIENCE, False
+        while sock is not None and len(made) < count and time.monotonic() < deadline:
+            if not select.select([sock], [], [], 0.02)[0]:
+                if last:
+                    break
+                last = server.poll() is not None
+                continue
+            try:
+                piece = sock.recv(65535)
+            except OSError:
+                server.wait(PATIENCE)
+                last = True
+                continue
+            if kind == "udp":
+                made.append(piece)
+                continue
+            if not piece:
+                break
+            octets += piece
+            while len(octets) >= 2 and len(octets) >= 2 + struct.unpack(">H", octets[:2])[0]:
+                size = struct.unpack(">H", octets[:2])[0]
+                made.append(octets[2 : 2 + size])
+                octets = octets[2 + size :]
+        if len(made) < count and kind == "tcp":
+            try:
+                server.wait(0.5)
+            except subprocess.TimeoutExpired:
+                pass
+        if octets and server.poll() is None:
+            raise Differs(f"{octets.hex()} came besides")
+        return made
+
+    def fetch(self, server, origin, held, wanted, may_end):
+        words = []
+        if held is not None:
+            self.write("held", held)
+            words = ["--since", "held"]
+        ran = subprocess.run([self.program, "fetch", f"127.0.0.1:{self.port}", origin, *words], cwd=self.folder, capture_output=True, text=True, timeout=60)
+        if may_end and ran.returncode:
+            server.wait(PATIENCE)
+            return True
+        expect(f"fetch {origin} {words}", (ran.returncode, ran.stdout), (0, wanted))
+        return server.poll() is not None
+
+    def run(self, length):
+        self.init()
+        for _ in range(length):
+            kinds = (self.serve, 8), (self.load, 3), (self.dump, 1), (self.dump_at, 1), (self.diff, 1), (self.history, 1), (self.verify, 1.5), (self.migrate, 1), (self.again, 0.2)
+            self.maker.pick(*kinds)()
+
+
+def one(program, seed, length):
+    folder = tempfile.mkdtemp(prefix="files-")
+    try:
+        runner = Runner(program, seed, folder)
+        try:
+            runner.run(length)
+            return runner.counts
+        except (Differs, AssertionError, subprocess.TimeoutExpired) as it:
+            kept = f"/tmp/files-{seed}"
+            shutil.rmtree(kept, ignore_errors=True)
+            shutil.copytree(folder, kept)
+            with open(f"{kept}/commands", "w") as file:
+                file.write("".join(f"{line}\n" for line in runner.done))
+            print(f"seed {seed}: after {len(runner.done)} commands, {runner.done[-1:]}: {type(it).__name__} {it}", flush=True)
+            return None
+    finally:
+        shutil.rmtree(folder, ignore_errors=True)
+
+
+def main(program, first, count, length=14):
+    sums, agreed = {}, 0
+    for seed in range(int(first), int(first) + int(count)):
+        counts = one(os.path.abspath(program), seed, int(length))
+        if counts:
+            agreed += 1
+            sums = {it: sums.get(it, 0) + count for it, count in counts.items()}
+    told = ", ".join(f"{count} {it}" for it, count in sums.items())
+    print(f"{agreed} of {count} runs agree: {told}" if agreed != int(count) else f"{agreed} runs agree: {told}")
+    return agreed != int(count)
+
+
+if __name__ == "__main__":
+    sys.exit(main(*sys.argv[1:]))
