@@ -1,0 +1,11 @@
+use Rattle.std.specs.Prelude.{take}
+use Rattle.std.specs.Io.KnownBytes.{Appends}
+use Rattle.dns_primary.specs.Keeps.{IsKept}
+use Rattle.dns_primary.specs.Machine.{Machine}
+use Rattle.dns_counters.specs.Lines.{zones_told}
+use Rattle.dns_counters.proofs.telling.write_zones.Given as goal
+
+abbrev pub invariant-loop-index : goal.invariant-loop-index
+invariant-loop-index g l =
+    (m : Machine) → IsKept l.fn.primary m
+    → Appends (g.W.Write.contents l.fn.out) (g.W.Write.contents l.out) (zones_told (take l.index l.fn.origins) m.zones)

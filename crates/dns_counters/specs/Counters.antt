@@ -1,0 +1,134 @@
+-- What a server has done, in numbers.
+use Rattle.std.specs.Prelude.{ℕ, ◌+◌, ◌-◌, ◌^◌, ◌/◌, ◌%◌, ◌==◌, min, Bool, true, false, List, [], ◌∷◌}
+use Rattle.std.specs.Prelude.{slice_index, slice_set, replicate, Option, Some, None, if◌then◌else◌}
+use Rattle.dns_records.specs.Types.{type_ixfr}
+use Rattle.dns_request.specs.Request.{Request, Ignored, Refused, NotServed, Query, Update, Transfer, request_of}
+use Rattle.dns_request.specs.Request.{opcode_query, opcode_update}
+use Rattle.dns_request.specs.declared.request.Transport.TheVariants.{Tcp}
+use Rattle.dns_primary.specs.declared.event.Effects.{Effects}
+use Rattle.dns_primary.specs.declared.event.HeaderTo.{HeaderTo}
+use Rattle.dns_primary.specs.declared.event.Noted.{Noted}
+use Rattle.dns_primary.specs.declared.event.Noted.TheVariants as noted
+use Rattle.dns_primary.specs.declared.event.Reply.{Reply}
+use Rattle.dns_primary.specs.Step.{Event, Datagram, Connect, Arrives, Flush, Checkpoint, Pump, Closed}
+use Rattle.dns_primary.specs.To.{octets_in}
+use Rattle.dns_network.specs.declared.network.Note.{Note}
+use Rattle.dns_network.specs.declared.network.Note.TheVariants as note
+use Rattle.dns_network.specs.Notes.{Report, OfNote, OfEvent}
+use Rattle.dns_counters.specs.declared.counters.Counters.{Counters}
+
+-- A count stays at its greatest.
+abbrev pub most : ℕ
+most = 2 ^ 64 - 1
+
+abbrev pub more : ℕ → ℕ
+more count = min (count + 1) most
+
+-- One more with this response code.
+abbrev pub more_at : ℕ → List ℕ → List ℕ
+more_at code counts = slice_set counts code (more (slice_index counts code))
+
+-- The opcode of a reply, its response code, and whether it is truncated (RFC 1035 4.1.1).
+abbrev pub opcode_in : List ℕ → ℕ
+opcode_in reply = slice_index reply 2 / 8 % 16
+
+abbrev pub code_in : List ℕ → ℕ
+code_in reply = slice_index reply 3 % 16
+
+abbrev pub is_cut : List ℕ → Bool
+is_cut reply = slice_index reply 2 / 2 % 2 == 1
+
+-- A reply is counted by its opcode and its code.
+abbrev pub with_reply : Counters → List ℕ → Counters
+with_reply c reply = record c {
+  queries = if opcode_in reply == opcode_query then more_at (code_in reply) c.queries else c.queries;
+  updates = if opcode_in reply == opcode_update then more_at (code_in reply) c.updates else c.updates;
+  truncated = if is_cut reply then more c.truncated else c.truncated;
+}
+
+-- So is each reply that waited.
+abbrev pub with_headers : Counters → List HeaderTo → Counters
+with_headers c [] = c
+with_headers c (h ∷ rest) = with_headers (with_reply c h.octets) rest
+
+-- So is the reply to what came. What a pump sends is a message of a transfer.
+abbrev pub with_octets : Counters → Option Reply → Counters
+with_octets c None = c
+with_octets c (Some reply) = with_reply c (octets_in reply.octets)
+
+abbrev pub with_answer : Counters → Event → Option Reply → Counters
+with_answer c (Pump number) message = c
+with_answer c (Datagram peer octets) message = with_octets c message
+with_answer c (Arrives number octets) message = with_octets c message
+with_answer c (Connect peer) message = with_octets c message
+with_answer c Flush message = with_octets c message
+with_answer c (Checkpoint place) message = with_octets c message
+with_answer c (Closed number) message = with_octets c message
+
+-- A transfer that is asked for is incremental or of the whole zone (RFC 1995, RFC 5936).
+abbrev pub with_request : Counters → Request → Counters
+with_request c (Transfer m q) =
+    if q.qtype == type_ixfr then record c { incremental = more c.incremental }
+    else record c { whole = more c.whole }
+with_request c Ignored = c
+with_request c (Refused rcode) = c
+with_request c (NotServed m q rcode) = c
+with_request c (Query m q) = c
+with_request c (Update m q) = c
+
+-- A message on a connection that gets no reply opens the transfer that it asks for, unless something is noted.
+abbrev pub with_message : Counters → List ℕ → Option Reply → Noted → Counters
+with_message c octets None noted.Nothing = with_request c (request_of octets Tcp)
+with_message c octets None noted.OutOfMemory = c
+with_message c octets None (noted.Device place) = c
+with_message c octets (Some reply) noted = c
+
+abbrev pub with_opened : Counters → Event → Effects → Counters
+with_opened c (Arrives number octets) effects = with_message c octets effects.message effects.noted
+with_opened c (Datagram peer octets) effects = c
+with_opened c (Connect peer) effects = c
+with_opened c Flush effects = c
+with_opened c (Checkpoint place) effects = c
+with_opened c (Pump number) effects = c
+with_opened c (Closed number) effects = c
+
+abbrev pub with_event : Counters → Event → Effects → Counters
+with_event c event effects =
+    with_opened (with_answer (with_headers c effects.headers.items) event effects.message) event effects
+
+-- A connection that is opened, closed, or refused is counted.
+abbrev pub with_note : Counters → Note → Counters
+with_note c (note.Opened number peer) = record c { opened = more c.opened }
+with_note c (note.Closed number) = record c { closed = more c.closed }
+with_note c note.Refused = record c { refused = more c.refused }
+with_note c note.OutOfMemory = c
+with_note c (note.Device place) = c
+with_note c (note.Begins now) = c
+with_note c note.Ends = c
+
+abbrev pub with_report : Counters → Report → Counters
+with_report c (OfNote one) = with_note c one
+with_report c (OfEvent event effects) = with_event c event effects
+
+-- The counts after reports, in order.
+abbrev pub with_reports : Counters → List Report → Counters
+with_reports c [] = c
+with_reports c (one ∷ rest) = with_reports (with_report c one) rest
+
+-- The counts of nothing.
+abbrev pub no_counts : Counters
+no_counts = record {
+  queries = replicate 16 0;
+  updates = replicate 16 0;
+  truncated = 0;
+  whole = 0;
+  incremental = 0;
+  opened = 0;
+  closed = 0;
+  refused = 0;
+}
+
+-- What an observer that counts has after a report, if it counts at all.
+abbrev pub counted : Bool → Counters → Report → Counters
+counted true c one = with_report c one
+counted false c one = c
