@@ -24,14 +24,15 @@ use Rattle.dns_network.specs.Notes.{AreNoted, notes_of, notes_of_opened}
 use Rattle.dns_primary.specs.declared.event.Waiting.{Waiting}
 use Rattle.dns_primary.specs.declared.primary.Primary.{Primary}
 use Rattle.dns_primary.specs.Machine.{Waits}
-use Rattle.dns_primary.specs.Step.{Event, Closed, Flush}
+use Rattle.dns_primary.specs.Step.{Event, Flush}
 use Rattle.dns_primary.specs.Keeps.{IsWaiting}
 use Rattle.dns_network.specs.declared.network.Network.{Ghosts}
 use Rattle.dns_network.specs.declared.network.Note.TheVariants as note
 use Rattle.dns_network.specs.declared.network.Observer as notes
-use Rattle.dns_network.specs.Delivery.{Served, Going, TakesEvent, AreGoing, AreSent, HasEffects, IsSent, reply_to_send}
+use Rattle.dns_network.specs.declared.edge.Turn.{Turn}
+use Rattle.dns_network.specs.Delivery.{Served, Going, TakesEvent, AreGoing, AreSent, HasEffects, HasNoted, IsClosed, IsSameTurn, IsSent, reply_to_send}
 use Rattle.dns_network.specs.Turn.{TurnMoment, Asks, Moves, Happens, Closes, AreMoments, HasAsked, HasHappened, EventComes, IsCauseNoted, IsMoment, NoneWaits}
-use Rattle.dns_network.specs.Turns.{AreDone, HasParts}
+use Rattle.dns_network.specs.Turns.{AreDone, HasParts, IsTurn}
 use Rattle.dns_network.proofs.Pushed.{set_there}
 use Rattle.dns_network.proofs.Steps.{steps_on}
 
@@ -62,6 +63,14 @@ closed_still {S = S} number old mid new same gone = gone ∙ ap (λ (cs : List (
 abbrev pub standing : {I D S N L : Type 0} {i : index.Ghosts I} {d : store.Ghosts D} → Primary I D i d → N → L → List (Option (Connection S))
     → Served I D S N L i d
 standing primary network notes connections = record { primary = primary; connections = connections; network = network; notes = notes }
+
+-- what a turn is made with, and some connections
+abbrev pub standing_by : {I D S N L : Type 0} {i : index.Ghosts I} {d : store.Ghosts D} → Turn I D N L i d → List (Option (Connection S)) → Served I D S N L i d
+standing_by turn connections = standing turn.primary.now turn.network.now turn.notes.now connections
+
+-- a turn is the same after two steps, if it is after each
+pub same_on : {I D N L : Type 0} {i : index.Ghosts I} {d : store.Ghosts D} (a b c : Turn I D N L i d) → IsSameTurn a b → IsSameTurn b c → IsSameTurn a c
+same_on a b c (network, primary, notes) (network', primary', notes') = (network' ∙ network, primary' ∙ primary, notes' ∙ notes)
 
 -- where nothing is kept of replies that wait, none waits
 none_of : (kept : List Waiting) (waiting : List Waits) → length kept ≡ 0 → Each2 IsWaiting kept waiting → waiting ≡ []
@@ -118,16 +127,23 @@ module _ {I D S N L : Type 0} {i : index.Ghosts I} {d : store.Ghosts D} (s : str
   -- an event happens, and so do its effects
   pub happened : (event : Event) (effects : Effects) (goings : List Going) (old given told new : Served I D S N L i d) → EventComes n now event old given
       → TakesEvent given.primary event told.primary effects → l.observes given.notes event effects told.notes
-      → told ≡ record given { primary = told.primary; notes = told.notes } → HasEffects n l effects goings told new → HasHappened n l now event effects goings old new
-  happened event effects goings old given told new is_given takes observed rest is =
-      record { given = given; is_given = is_given; told = told; takes = takes; observed = observed; rest = rest; happened = is }
+      → told.connections ≡ given.connections → told.network ≡ given.network → HasEffects n l effects goings told new → HasHappened n l now event effects goings old new
+  happened event effects goings old given told new is_given takes observed still asked is = record {
+    given = given;
+    is_given = is_given;
+    told = told;
+    takes = takes;
+    observed = observed;
+    rest = λ k. record told { connections = still k; network = asked k };
+    happened = is;
+  }
 
   pub happens : (event : Event) (effects : Effects) (old given told new : Served I D S N L i d) → EventComes n now event old given
       → TakesEvent given.primary event told.primary effects → l.observes given.notes event effects told.notes
-      → told ≡ record given { primary = told.primary; notes = told.notes }
+      → told.connections ≡ given.connections → told.network ≡ given.network
       → (goings : List Going) × HasEffects n l effects goings told new → MomentsLead s n l now old new
-  happens event effects old given told new is_given takes observed rest (goings, is) =
-      by_one (Happens event effects goings) old new (happened event effects goings old given told new is_given takes observed rest is)
+  happens event effects old given told new is_given takes observed still asked (goings, is) =
+      by_one (Happens event effects goings) old new (happened event effects goings old given told new is_given takes observed still asked is)
 
   -- a turn after which no reply waits, and one after which one does
   pub not_flushed : (rested : Option ℕ) (moments : List TurnMoment) (old new : Served I D S N L i d) → AreMoments s n l now moments old new
@@ -150,6 +166,19 @@ module _ {I D S N L : Type 0} {i : index.Ghosts I} {d : store.Ghosts D} (s : str
     flush = inr (effects, goings, refl);
   }
 
+  -- What was done is a turn, if it was noted that it begins and that it ends. What it was made with is what it left.
+  pub is_turn : (rested : Option ℕ) (moments : List TurnMoment) (old begun : Served I D S N L i d) (primary primary' : Primary I D i d) (network network' : N) (notes notes' last : L)
+      (connections : List (Option (Connection S))) → primary' ≡ primary → network' ≡ network → notes' ≡ notes → HasNoted l (note.Begins now) old begun
+      → AreDone s n l now rested moments begun (standing primary network notes connections) → l.takes notes' note.Ends last
+      → IsTurn s n l now rested moments old (standing primary' network' last connections)
+  is_turn rested moments old begun primary primary' network network' notes notes' last connections p q r begins done ends = record {
+    begun = begun;
+    ended = standing primary' network' notes' connections;
+    begins = begins;
+    done = subst (AreDone s n l now rested moments begun) (λ k. standing (sym p k) (sym q k) (sym r k) connections) done;
+    ends = record { rest = refl; noted = ends };
+  }
+
   -- a connection was read or written
   pub moves : (number : ℕ) (moved : Moved) (primary : Primary I D i d) (network : N) (notes : L) (old new : List (Option (Connection S)))
       → HasBecome (MovesOn s now moved) number old new
@@ -158,17 +187,15 @@ module _ {I D S N L : Type 0} {i : index.Ghosts I} {d : store.Ghosts D} (s : str
       record { before = c; after = e; there = there; on = on; rest = ap (standing primary network notes) is }
 
   -- a connection gave a cause to close it, and was closed
-  pub closes : (number : ℕ) (cause : Cause) (before after : Primary I D i d) (network : N) (first mid last : L) (old new : List (Option (Connection S)))
-      → GivesCause s now cause number old → IsCauseNoted l cause (standing before network first old) (standing before network mid old)
-      → (effects : Effects) × TakesEvent before (Closed number) after effects → new ≡ slice_set old number None → l.takes mid (note.Closed number) last
-      → IsMoment s n l now (Closes number cause) (standing before network first old) (standing after network last new)
-  closes number cause before after network first mid last old new gives told (effects, takes) gone noted =
-      record {
-        gives = gives;
-        told = standing before network mid old;
-        noted = told;
-        closed = record { effects = effects; told = takes; gone = gone; network = refl; noted = noted };
-      }
+  pub closes : (number : ℕ) (cause : Cause) (old told new : Served I D S N L i d) → GivesCause s now cause number old.connections
+      → IsCauseNoted l cause old told → IsClosed l number told new → IsMoment s n l now (Closes number cause) old new
+  closes number cause old told new gives noted closed = record { gives = gives; told = told; noted = noted; closed = closed }
+
+module _ {I D S N L : Type 0} {i : index.Ghosts I} {d : store.Ghosts D} (l : notes.Ghosts L) where
+  -- a connection was closed, and nothing else is changed by that of what had been there before
+  pub closed_from : (number : ℕ) (places : List (Option (Connection S))) (told new : Served I D S N L i d) → new.connections ≡ slice_set places number None
+      → IsClosed l number told new → IsClosed l number (record told { connections = places }) new
+  closed_from number places told new gone is = record { effects = is.effects; told = is.told; gone = gone; network = is.network; noted = is.noted }
 
 module _ {I D S N L : Type 0} {i : index.Ghosts I} {d : store.Ghosts D} (n : Ghosts N S) (l : notes.Ghosts L) where
   going_on : (first later : List Going) (a b c : Served I D S N L i d) → AreGoing n l first a b → AreGoing n l later b c → AreGoing n l (first ++ later) a c

@@ -14,6 +14,7 @@ use Rattle.dns_primary.specs.Step.{Event, Closed}
 use Rattle.dns_primary.specs.Keeps.{IsKept, header_out, reply_out}
 use Rattle.dns_primary.specs.Steps.{SteppedBy}
 use Rattle.dns_network.specs.declared.edge.Edge.{Edge}
+use Rattle.dns_network.specs.declared.edge.Turn.{Turn}
 use Rattle.dns_network.specs.declared.network.Network.{Ghosts}
 use Rattle.dns_network.specs.declared.network.Note.{Note}
 use Rattle.dns_network.specs.declared.network.Note.TheVariants as note
@@ -52,6 +53,15 @@ rested_of edge = edge.rested
 abbrev pub RestsAsBefore : {S : Type 0} → Edge S → Edge S → Type 0
 RestsAsBefore old new = (second : ℕ) → rested_of new ≡ Some second → rested_of old ≡ Some second
 
+-- A turn is made with the same network, primary and observer as before: its references are the same, so that
+-- what is done in it is done to what it was made with.
+abbrev pub IsSameTurn : {I D N L : Type 0} {i : index.Ghosts I} {d : store.Ghosts D} → Turn I D N L i d
+    → Turn I D N L i d → Type 0
+IsSameTurn old new =
+    (new.network.ghost_name ≡ old.network.ghost_name)
+    × (new.primary.ghost_name ≡ old.primary.ghost_name)
+    × (new.notes.ghost_name ≡ old.notes.ghost_name)
+
 -- A primary, connections by their numbers, a network, and what takes notes.
 pub record Served (I D S N L : Type 0) (i : index.Ghosts I) (d : store.Ghosts D) : Type 0 where
   pub primary : Primary I D i d
@@ -63,6 +73,10 @@ module _ {I D S N L : Type 0} {i : index.Ghosts I} {d : store.Ghosts D} where
   abbrev pub served : Primary I D i d → Edge S → N → L → Served I D S N L i d
   served primary edge network notes =
       record { primary = primary; connections = connections_of edge; network = network; notes = notes }
+
+  -- what a turn is made with serves the connections of an edge
+  abbrev pub served_by : Turn I D N L i d → Edge S → Served I D S N L i d
+  served_by turn edge = served turn.primary.now edge turn.network.now turn.notes.now
 
   -- This was noted, and nothing else done.
   pub record HasNoted (l : notes.Ghosts L) (one : Note) (old new : Served I D S N L i d) : Type 0 where

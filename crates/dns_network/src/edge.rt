@@ -1,20 +1,20 @@
 //! Turns: what is done with the network, one turn after the other.
 ghost use Rattle.std.specs.Prelude.{◌≡◌, ◌⊎◌, ◌≤◌, ◌<◌, ℕ, Bool, List, [], map, replicate, false};
-ghost use Rattle.std.specs.Prelude.{Some, None, is_some, slice_get, slice_set, IfOk, IsTrue};
+ghost use Rattle.std.specs.Prelude.{Some, None, is_some, slice_get, IfOk, IsTrue};
 ghost use Rattle.std.specs.Option.{option_copied_mut};
 ghost use Rattle.dns_primary.specs.declared.event.Effects.{Effects as StatedEffects};
 ghost use Rattle.dns_primary.specs.Keeps.{IsKept, header_out, reply_out};
 ghost use Rattle.dns_primary.specs.Machine.{IsListed, Machine};
-ghost use Rattle.dns_primary.specs.Step.{Closed, Pump};
+ghost use Rattle.dns_primary.specs.Step.{Pump};
 ghost use Rattle.dns_primary.specs.Steps.{event_shown};
-ghost use Rattle.dns_network.specs.declared.network.Note.TheVariants as note;
 ghost use Rattle.dns_network.specs.Closing.{StalledAreGone, UnusedAreGone};
 ghost use Rattle.dns_network.specs.Connection.{IsInUse, IsStalled, IsUnused, IsUnusedOrInUse, used_of};
 ghost use Rattle.dns_network.specs.Connections.{IsGoneOr, IsOpenWith, HasPumped, connection_at};
 ghost use Rattle.dns_network.specs.Connections.{open_connections};
 ghost use Rattle.dns_network.specs.Notes.{AreNoted, notes_of};
-ghost use Rattle.dns_network.specs.Delivery.{AreSent, Going, HasEffects, IsSent, TakesEvent, connections_of};
-ghost use Rattle.dns_network.specs.Delivery.{RestsAsBefore, rested_of, served};
+ghost use Rattle.dns_network.specs.Delivery.{AreSent, Going, HasEffects, IsClosed, IsSameTurn, IsSent};
+ghost use Rattle.dns_network.specs.Delivery.{RestsAsBefore, TakesEvent, connections_of, rested_of, served};
+ghost use Rattle.dns_network.specs.Delivery.{served_by};
 ghost use Rattle.dns_network.specs.Turn.{Happens, IsMoment, IsWelcomed, NoneWaits, TurnMoment};
 ghost use Rattle.dns_network.specs.Turn.{places_for_all};
 ghost use Rattle.dns_network.specs.Turns.{AreDone, AreIdle, AreServed, HasItsPart, IsAccepting, IsReading};
@@ -37,6 +37,16 @@ const LONGEST: usize = 65535;
 
 /// Where so many connections are open, the places left are for peers whose address some zone lists.
 const PLACES_FOR_ALL: usize = 48;
+
+/// What a turn is made with, beside memory: the network, the primary, and who is told of it.
+// Each reference has a lifetime of its own, and `Heap`, itself a reference, is handed on beside them: a proof
+// wouldn't know otherwise what is left behind them.
+#[derive(Drop)]
+struct Turn<'n, 'p, 'l, I: ZoneIndex, D: ZoneStore, N, L> {
+    network: &'n mut N,
+    primary: &'p mut Primary<I, D>,
+    notes: &'l mut L,
+}
 
 /// The connections of a server, and a buffer for what is read.
 pub struct Edge<S: Stream> {
@@ -83,22 +93,20 @@ impl<S: Stream + Drop> Edge<S> {
     }
 
     /// Closes a connection: its stream is let go, and what waits to go to it goes nowhere.
-    fn close<I: ZoneIndex, D: ZoneStore, L: Observer>(
+    fn close<I: ZoneIndex, D: ZoneStore, N: Network<S>, L: Observer>(
         &mut self,
         alloc: Heap,
-        primary: &mut Primary<I, D>,
-        notes: &mut L,
+        turn: &mut Turn<I, D, N, L>,
         number: usize,
     )
-        ensures told { (effects : StatedEffects)
-            × TakesEvent primary.old (Closed number) primary.new effects }
-        ensures gone { connections_of self.new ≡ slice_set (connections_of self.old) number None }
-        ensures noted { L.takes notes.old (note.Closed number) notes.new }
+        ensures closed { IsClosed L.Observer number
+            (served_by turn.old self.old) (served_by turn.new self.new) }
         ensures rested { RestsAsBefore self.old self.new }
+        ensures same { IsSameTurn turn.old turn.new }
     {
-        let _nothing = primary.step(alloc, Event::Closed(number));
+        let _nothing = turn.primary.step(alloc, Event::Closed(number));
         self.connections.remove(number);
-        notes.note(Note::Closed(number));
+        turn.notes.note(Note::Closed(number));
     }
 
     /// Sends a reply to where it goes, or queues it there. A connection whose reply can't be queued is
@@ -107,26 +115,24 @@ impl<S: Stream + Drop> Edge<S> {
     fn send<I: ZoneIndex, D: ZoneStore, N: Network<S>, L: Observer>(
         &mut self,
         alloc: Heap,
-        network: &mut N,
-        primary: &mut Primary<I, D>,
-        notes: &mut L,
+        turn: &mut Turn<I, D, N, L>,
         to: To,
         reply: &[u8],
     )
         ensures sent { (cut : Bool) × IsSent N.Network L.Observer to reply.now cut
-            (served primary.old self.old network.old notes.old)
-            (served primary.new self.new network.new notes.new) }
+            (served_by turn.old self.old) (served_by turn.new self.new) }
         ensures rested { RestsAsBefore self.old self.new }
+        ensures same { IsSameTurn turn.old turn.new }
     {
         match to {
-            To::Address(peer) => network.send(peer, reply),
+            To::Address(peer) => turn.network.send(peer, reply),
             To::Connection(number) => {
                 self.rested = None;
                 if reply.len() > LONGEST {
-                    self.close(alloc, primary, notes, number);
+                    self.close(alloc, turn, number);
                 } else if let Err(_) = self.connections.push(number, reply) {
-                    notes.note(Note::OutOfMemory);
-                    self.close(alloc, primary, notes, number);
+                    turn.notes.note(Note::OutOfMemory);
+                    self.close(alloc, turn, number);
                 }
             }
             To::Nowhere => {}
@@ -138,19 +144,17 @@ impl<S: Stream + Drop> Edge<S> {
     fn send_headers<I: ZoneIndex, D: ZoneStore, N: Network<S>, L: Observer>(
         &mut self,
         alloc: Heap,
-        network: &mut N,
-        primary: &mut Primary<I, D>,
-        notes: &mut L,
+        turn: &mut Turn<I, D, N, L>,
         headers: &[HeaderTo],
     )
         ensures sent { AreSent N.Network L.Observer (map (λ h. header_out h) headers.now)
-            (served primary.old self.old network.old notes.old)
-            (served primary.new self.new network.new notes.new) }
+            (served_by turn.old self.old) (served_by turn.new self.new) }
         ensures rested { RestsAsBefore self.old self.new }
+        ensures same { IsSameTurn turn.old turn.new }
     {
         for header in headers {
             let to = header.waited.to;
-            self.send(alloc, network, primary, notes, to, &header.octets);
+            self.send(alloc, turn, to, &header.octets);
         }
     }
 
@@ -159,19 +163,17 @@ impl<S: Stream + Drop> Edge<S> {
     fn send_reply<I: ZoneIndex, D: ZoneStore, N: Network<S>, L: Observer>(
         &mut self,
         alloc: Heap,
-        network: &mut N,
-        primary: &mut Primary<I, D>,
-        notes: &mut L,
+        turn: &mut Turn<I, D, N, L>,
         reply: &Option<Reply>,
     )
         ensures sent { AreSent N.Network L.Observer (reply_out reply.now)
-            (served primary.old self.old network.old notes.old)
-            (served primary.new self.new network.new notes.new) }
+            (served_by turn.old self.old) (served_by turn.new self.new) }
         ensures rested { RestsAsBefore self.old self.new }
+        ensures same { IsSameTurn turn.old turn.new }
     {
         if let Some(reply) = reply {
             let octets = reply.octets.as_slice();
-            self.send(alloc, network, primary, notes, reply.to, octets);
+            self.send(alloc, turn, reply.to, octets);
         }
     }
 
@@ -181,19 +183,17 @@ impl<S: Stream + Drop> Edge<S> {
     fn deliver<I: ZoneIndex, D: ZoneStore, N: Network<S>, L: Observer>(
         &mut self,
         alloc: Heap,
-        network: &mut N,
-        primary: &mut Primary<I, D>,
-        notes: &mut L,
+        turn: &mut Turn<I, D, N, L>,
         effects: Effects,
     )
         ensures happened { (goings : List Going) × HasEffects N.Network L.Observer effects goings
-            (served primary.old self.old network.old notes.old)
-            (served primary.new self.new network.new notes.new) }
+            (served_by turn.old self.old) (served_by turn.new self.new) }
         ensures rested { RestsAsBefore self.old self.new }
+        ensures same { IsSameTurn turn.old turn.new }
     {
-        self.send_headers(alloc, network, primary, notes, effects.headers.as_slice());
-        self.send_reply(alloc, network, primary, notes, &effects.message);
-        tell(notes, effects.noted);
+        self.send_headers(alloc, turn, effects.headers.as_slice());
+        self.send_reply(alloc, turn, &effects.message);
+        tell(turn.notes, effects.noted);
     }
 
     /// Opens a connection that a peer made: the primary is told, its stream is watched, and it gets its slot.
@@ -203,30 +203,28 @@ impl<S: Stream + Drop> Edge<S> {
     fn open_connection<I: ZoneIndex, D: ZoneStore, N: Network<S>, L: Observer>(
         &mut self,
         alloc: Heap,
-        network: &mut N,
-        primary: &mut Primary<I, D>,
-        notes: &mut L,
+        turn: &mut Turn<I, D, N, L>,
         stream: S,
         peer: Peer,
         now: u64,
     )
         ensures welcomed { IsWelcomed N.Network L.Observer now stream peer
-            (served primary.old self.old network.old notes.old)
-            (served primary.new self.new network.new notes.new) }
+            (served_by turn.old self.old) (served_by turn.new self.new) }
         ensures rested { RestsAsBefore self.old self.new }
+        ensures same { IsSameTurn turn.old turn.new }
     {
-        let effects = primary.step(alloc, Event::Connect(peer));
-        tell(notes, effects.noted);
+        let effects = turn.primary.step(alloc, Event::Connect(peer));
+        tell(turn.notes, effects.noted);
         let Some(number) = effects.accepted else {
-            return notes.note(Note::Refused);
+            return turn.notes.note(Note::Refused);
         };
-        notes.note(Note::Opened(number, peer));
-        let Some(watched) = network.watch(number, stream) else {
-            return self.close(alloc, primary, notes, number);
+        turn.notes.note(Note::Opened(number, peer));
+        let Some(watched) = turn.network.watch(number, stream) else {
+            return self.close(alloc, turn, number);
         };
         let connection = Connection::new(alloc, watched, now);
         if let Err(_) = self.connections.insert(number, connection) {
-            self.close(alloc, primary, notes, number);
+            self.close(alloc, turn, number);
             return;
         }
         self.rested = None;
@@ -252,25 +250,23 @@ impl<S: Stream + Drop> Edge<S> {
     fn accept<I: ZoneIndex, D: ZoneStore, N: Network<S>, L: Observer>(
         &mut self,
         alloc: Heap,
-        network: &mut N,
-        primary: &mut Primary<I, D>,
-        notes: &mut L,
+        turn: &mut Turn<I, D, N, L>,
         now: u64,
     ) -> bool
         ensures accepts { (moments : List TurnMoment)
             × IsAccepting S.Stream N.Network L.Observer now result moments
-            (served primary.old self.old network.old notes.old)
-            (served primary.new self.new network.new notes.new) }
+            (served_by turn.old self.old) (served_by turn.new self.new) }
         ensures rested { RestsAsBefore self.old self.new }
+        ensures same { IsSameTurn turn.old turn.new }
     {
-        let Some((stream, peer)) = network.accept() else {
+        let Some((stream, peer)) = turn.network.accept() else {
             return false;
         };
-        if self.is_full_for(primary, peer.address) {
-            notes.note(Note::Refused);
+        if self.is_full_for(turn.primary, peer.address) {
+            turn.notes.note(Note::Refused);
             return true;
         }
-        self.open_connection(alloc, network, primary, notes, stream, peer, now);
+        self.open_connection(alloc, turn, stream, peer, now);
         true
     }
 
@@ -278,22 +274,20 @@ impl<S: Stream + Drop> Edge<S> {
     fn receive<I: ZoneIndex, D: ZoneStore, N: Network<S>, L: Observer>(
         &mut self,
         alloc: Heap,
-        network: &mut N,
-        primary: &mut Primary<I, D>,
-        notes: &mut L,
+        turn: &mut Turn<I, D, N, L>,
     ) -> bool
         ensures receives { (now : ℕ) → (moments : List TurnMoment)
             × IsReceiving S.Stream N.Network L.Observer now result moments
-            (served primary.old self.old network.old notes.old)
-            (served primary.new self.new network.new notes.new) }
+            (served_by turn.old self.old) (served_by turn.new self.new) }
         ensures rested { RestsAsBefore self.old self.new }
+        ensures same { IsSameTurn turn.old turn.new }
     {
-        let Some((count, peer)) = network.receive(&mut self.buffer) else {
+        let Some((count, peer)) = turn.network.receive(&mut self.buffer) else {
             return false;
         };
         let datagram = Event::Datagram(peer, &self.buffer[..count]);
-        let effects = happen(alloc, primary, notes, datagram);
-        self.deliver(alloc, network, primary, notes, effects);
+        let effects = turn.happen(alloc, datagram);
+        self.deliver(alloc, turn, effects);
         true
     }
 
@@ -302,22 +296,20 @@ impl<S: Stream + Drop> Edge<S> {
     fn pump<I: ZoneIndex, D: ZoneStore, N: Network<S>, L: Observer>(
         &mut self,
         alloc: Heap,
-        network: &mut N,
-        primary: &mut Primary<I, D>,
-        notes: &mut L,
+        turn: &mut Turn<I, D, N, L>,
         number: usize,
     ) -> bool
         ensures pumps { (now : ℕ) → (effects : StatedEffects) × (goings : List Going)
             × (result ≡ is_some effects.message)
             × IsMoment S.Stream N.Network L.Observer now (Happens (Pump number) effects goings)
-            (served primary.old self.old network.old notes.old)
-            (served primary.new self.new network.new notes.new) }
-        ensures pumped { (m : Machine) → IsKept primary.old m
+            (served_by turn.old self.old) (served_by turn.new self.new) }
+        ensures pumped { (m : Machine) → IsKept turn.old.primary.now m
             → HasPumped number result (connections_of self.old) (connections_of self.new) }
+        ensures same { IsSameTurn turn.old turn.new }
     {
-        let effects = happen(alloc, primary, notes, Event::Pump(number));
+        let effects = turn.happen(alloc, Event::Pump(number));
         let is_sent = effects.message.is_some();
-        self.deliver(alloc, network, primary, notes, effects);
+        self.deliver(alloc, turn, effects);
         is_sent
     }
 
@@ -326,35 +318,33 @@ impl<S: Stream + Drop> Edge<S> {
     fn read_piece<I: ZoneIndex, D: ZoneStore, N: Network<S>, L: Observer>(
         &mut self,
         alloc: Heap,
-        network: &mut N,
-        primary: &mut Primary<I, D>,
-        notes: &mut L,
+        turn: &mut Turn<I, D, N, L>,
         number: usize,
         now: u64,
     ) -> bool
         ensures reads { (moments : List TurnMoment)
             × IsReading S.Stream N.Network L.Observer now number moments
-            (served primary.old self.old network.old notes.old)
-            (served primary.new self.new network.new notes.new) × (result ≡ false → AreIdle moments) }
+            (served_by turn.old self.old) (served_by turn.new self.new) × (result ≡ false → AreIdle moments) }
         ensures silent { IsGoneOr (IsUnusedOrInUse now) (slice_get (connections_of self.old) number)
             → IsGoneOr (IsInUse now) (slice_get (connections_of self.new) number) }
+        ensures same { IsSameTurn turn.old turn.new }
     {
         let Ok(moved) = self.connections.read(alloc, number, &mut self.buffer) else {
-            notes.note(Note::OutOfMemory);
-            self.close(alloc, primary, notes, number);
+            turn.notes.note(Note::OutOfMemory);
+            self.close(alloc, turn, number);
             return true;
         };
         if let Moved::Ended = moved {
-            self.close(alloc, primary, notes, number);
+            self.close(alloc, turn, number);
             return true;
         }
         if let Some(message) = self.connections.next_message(number, now) {
-            let effects = happen(alloc, primary, notes, Event::Message(number, &message));
-            self.deliver(alloc, network, primary, notes, effects);
+            let effects = turn.happen(alloc, Event::Message(number, &message));
+            self.deliver(alloc, turn, effects);
             return true;
         }
         if self.connections.is_silent(number, now) {
-            self.close(alloc, primary, notes, number);
+            self.close(alloc, turn, number);
             return true;
         }
         moved != Moved::Later
@@ -367,24 +357,22 @@ impl<S: Stream + Drop> Edge<S> {
     fn serve_connection<I: ZoneIndex, D: ZoneStore, N: Network<S>, L: Observer>(
         &mut self,
         alloc: Heap,
-        network: &mut N,
-        primary: &mut Primary<I, D>,
-        notes: &mut L,
+        turn: &mut Turn<I, D, N, L>,
         number: usize,
         now: u64,
     ) -> bool
         ensures part { (moments : List TurnMoment)
             × HasItsPart S.Stream N.Network L.Observer now number moments
-            (served primary.old self.old network.old notes.old)
-            (served primary.new self.new network.new notes.new) × (result ≡ false → AreIdle moments) }
+            (served_by turn.old self.old) (served_by turn.new self.new) × (result ≡ false → AreIdle moments) }
         // A connection that was stalled before is gone then, or it was used in this second.
         ensures stalled { IsOpenWith (IsStalled now) (slice_get (connections_of self.old) number)
             → IsGoneOr (λ c. used_of c ≡ now) (slice_get (connections_of self.new) number) }
         // One that was unused before is gone then, or it was used in this second, or octets are left to
         // write.
-        ensures silent { (m : Machine) → IsKept primary.old m
+        ensures silent { (m : Machine) → IsKept turn.old.primary.now m
             → IsOpenWith (IsUnused now) (slice_get (connections_of self.old) number)
             → IsGoneOr (IsInUse now) (slice_get (connections_of self.new) number) }
+        ensures same { IsSameTurn turn.old turn.new }
     {
         if !self.connections.is_open(number) {
             return false;
@@ -392,19 +380,19 @@ impl<S: Stream + Drop> Edge<S> {
         if self.connections.has_left(number) {
             let moved = self.connections.write(number, now);
             if let Moved::Ended = moved {
-                self.close(alloc, primary, notes, number);
+                self.close(alloc, turn, number);
                 return true;
             }
             if self.connections.is_stalled(number, now) {
-                self.close(alloc, primary, notes, number);
+                self.close(alloc, turn, number);
                 return true;
             }
             return moved != Moved::Later;
         }
-        if self.pump(alloc, network, primary, notes, number) {
+        if self.pump(alloc, turn, number) {
             return true;
         }
-        self.read_piece(alloc, network, primary, notes, number, now)
+        self.read_piece(alloc, turn, number, now)
     }
 
     /// Gives each connection its part of a turn, by rising number, and answers whether one had something to
@@ -412,28 +400,26 @@ impl<S: Stream + Drop> Edge<S> {
     fn serve_connections<I: ZoneIndex, D: ZoneStore, N: Network<S>, L: Observer>(
         &mut self,
         alloc: Heap,
-        network: &mut N,
-        primary: &mut Primary<I, D>,
-        notes: &mut L,
+        turn: &mut Turn<I, D, N, L>,
         now: u64,
     ) -> bool
         ensures serves { (moments : List TurnMoment)
             × AreServed S.Stream N.Network L.Observer now (rested_of self.old) moments
-            (served primary.old self.old network.old notes.old)
-            (served primary.new self.new network.new notes.new) × (result ≡ false → AreIdle moments) }
+            (served_by turn.old self.old) (served_by turn.new self.new) × (result ≡ false → AreIdle moments) }
         // Unless none had something to do in this second, each that was unused or stalled is gone, or used.
-        ensures unused { (rested_of self.old ≡ Some now → ⊥) → (m : Machine) → IsKept primary.old m
+        ensures unused { (rested_of self.old ≡ Some now → ⊥) → (m : Machine) → IsKept turn.old.primary.now m
             → UnusedAreGone now (connections_of self.old) (connections_of self.new) }
         ensures stalled { (rested_of self.old ≡ Some now → ⊥)
             → StalledAreGone now (connections_of self.old) (connections_of self.new) }
         ensures rested { (second : ℕ) → rested_of self.new ≡ Some second → second ≡ now }
+        ensures same { IsSameTurn turn.old turn.new }
     {
-        if self.rested == Some(now) && network.is_still() {
+        if self.rested == Some(now) && turn.network.is_still() {
             return false;
         }
         let mut is_done = false;
         for number in 0..self.connections.place_count() {
-            if self.serve_connection(alloc, network, primary, notes, number, now) {
+            if self.serve_connection(alloc, turn, number, now) {
                 is_done = true;
             }
         }
@@ -446,31 +432,29 @@ impl<S: Stream + Drop> Edge<S> {
     fn work<I: ZoneIndex, D: ZoneStore, N: Network<S>, L: Observer>(
         &mut self,
         alloc: Heap,
-        network: &mut N,
-        primary: &mut Primary<I, D>,
-        notes: &mut L,
+        turn: &mut Turn<I, D, N, L>,
         now: u64,
     ) -> bool
         ensures done { (moments : List TurnMoment)
             × AreDone S.Stream N.Network L.Observer now (rested_of self.old) moments
-            (served primary.old self.old network.old notes.old)
-            (served primary.new self.new network.new notes.new) × (result ≡ false → AreIdle moments) }
-        ensures idle { result ≡ false → NoneWaits primary.new }
-        ensures unused { (rested_of self.old ≡ Some now → ⊥) → (m : Machine) → IsKept primary.old m
+            (served_by turn.old self.old) (served_by turn.new self.new) × (result ≡ false → AreIdle moments) }
+        ensures idle { result ≡ false → NoneWaits turn.new.primary.now }
+        ensures unused { (rested_of self.old ≡ Some now → ⊥) → (m : Machine) → IsKept turn.old.primary.now m
             → UnusedAreGone now (connections_of self.old) (connections_of self.new) }
         ensures stalled { (rested_of self.old ≡ Some now → ⊥)
             → StalledAreGone now (connections_of self.old) (connections_of self.new) }
         ensures rested { (second : ℕ) → rested_of self.new ≡ Some second → second ≡ now }
+        ensures same { IsSameTurn turn.old turn.new }
     {
-        let accepted = self.accept(alloc, network, primary, notes, now);
-        let received = self.receive(alloc, network, primary, notes);
-        let visited = self.serve_connections(alloc, network, primary, notes, now);
+        let accepted = self.accept(alloc, turn, now);
+        let received = self.receive(alloc, turn);
+        let visited = self.serve_connections(alloc, turn, now);
         let mut is_done = accepted | received | visited;
-        if primary.has_waiting() {
-            network.look();
-            let effects = happen(alloc, primary, notes, Event::Flush);
-            self.deliver(alloc, network, primary, notes, effects);
-            network.look();
+        if turn.primary.has_waiting() {
+            turn.network.look();
+            let effects = turn.happen(alloc, Event::Flush);
+            self.deliver(alloc, turn, effects);
+            turn.network.look();
             is_done = true;
         }
         is_done
@@ -509,26 +493,32 @@ impl<S: Stream + Drop> Edge<S> {
         ensures rested { (second : ℕ) → rested_of self.new ≡ Some second → second ≡ now }
     {
         notes.note(Note::Begins(now));
-        let is_done = self.work(alloc, network, primary, notes, now);
+        let mut turn = Turn {
+            network,
+            primary,
+            notes: &mut *notes,
+        };
+        let is_done = self.work(alloc, &mut turn, now);
         notes.note(Note::Ends);
         is_done
     }
 }
 
-/// Lets an event happen, and has it observed.
-#[inline(always)]
-fn happen<I: ZoneIndex, D: ZoneStore, L: Observer>(
-    alloc: Heap,
-    primary: &mut Primary<I, D>,
-    notes: &mut L,
-    event: Event<'_>,
-) -> Effects
-    ensures takes { TakesEvent primary.old (event_shown event.entry) primary.new result }
-    ensures observed { L.observes notes.old (event_shown event.entry) result notes.new }
-{
-    let effects = primary.step(alloc, event);
-    notes.observe(event, &effects);
-    effects
+impl<I: ZoneIndex, D: ZoneStore, N, L: Observer> Turn<'_, '_, '_, I, D, N, L> {
+    /// Lets an event happen, and has it observed.
+    #[inline(always)]
+    fn happen(&mut self, alloc: Heap, event: Event<'_>) -> Effects
+        ensures takes { TakesEvent self.old.primary.now (event_shown event.entry) self.new.primary.now
+            result }
+        ensures observed { L.observes self.old.notes.now (event_shown event.entry) result
+            self.new.notes.now }
+        ensures network { self.new.network.now ≡ self.old.network.now }
+        ensures same { IsSameTurn self.old self.new }
+    {
+        let effects = self.primary.step(alloc, event);
+        self.notes.observe(event, &effects);
+        effects
+    }
 }
 
 /// Tells what was noted of an event.

@@ -2,15 +2,15 @@ use Rattle.std.proofs.Common.{◌≡◌, true, false, [], ◌∷◌, refl, inl, 
 use Rattle.dns_primary.specs.Keeps.{IsKept}
 use Rattle.dns_primary.specs.Machine.{Machine}
 use Rattle.dns_network.specs.Closing.{NoPlace}
-use Rattle.dns_network.specs.Delivery.{served}
+use Rattle.dns_network.specs.Delivery.{served, served_by}
 use Rattle.dns_network.specs.Turn.{Asks, Closes, ClosedFor, Connects, HasAsked, HasConnected, HasRefused, Refuses}
 use Rattle.dns_network.proofs.Leads.{one_moment, two_moments}
 use Rattle.dns_network.proofs.edge.Edge.accept.Goals as goal
 
 pub returns-in_default-clause-accepts : goal.returns-in_default-clause-accepts
 returns-in_default-clause-accepts g c =
-    let old = served c.args.primary.now c.args.self.now c.args.network.now c.args.notes.now in
-    let new = served c.args.primary.now c.args.self.now c.accept.new.self c.args.notes.now in
+    let old = served_by c.args.turn.now c.args.self.now in
+    let new = served c.args.turn.now.primary.now c.args.self.now c.accept.new.self c.args.turn.now.notes.now in
     let asked : HasAsked g.N.Network old new = record { rest = refl; nothing = inl c.in_default.ensures } in (
       Asks ∷ [],
       record {
@@ -22,8 +22,8 @@ returns-in_default-clause-accepts g c =
 
 pub returns-then-is_full_for-clause-accepts : goal.returns-then-is_full_for-clause-accepts
 returns-then-is_full_for-clause-accepts g c =
-    let old = served c.args.primary.now c.args.self.now c.args.network.now c.args.notes.now in
-    let new = served c.args.primary.now c.args.self.now c.accept.new.self c.note.new.self in
+    let old = served_by c.args.turn.now c.args.self.now in
+    let new = served c.args.turn.now.primary.now c.args.self.now c.accept.new.self c.note.new.self in
     let refused : HasRefused g.N.Network g.L.Observer c.in-Some.peer old new = record {
       stream = c.in-Some.stream;
       came = c.in-Some.ensures;
@@ -42,9 +42,9 @@ returns-then-is_full_for-clause-accepts g c =
 
 pub returns-clause-accepts : goal.returns-clause-accepts
 returns-clause-accepts g c =
-    let allowed = λ (m : Machine) (kept : IsKept c.args.primary.now m). c.is_full_for.ensures.allowed c.if-is_full_for.false m kept in
-    let old = served c.args.primary.now c.args.self.now c.args.network.now c.args.notes.now in
-    let new = served c.open_connection.new.primary c.open_connection.new.self c.open_connection.new.network c.open_connection.new.notes in
+    let allowed = λ (m : Machine) (kept : IsKept c.args.turn.now.primary.now m). c.is_full_for.ensures.allowed c.if-is_full_for.false m kept in
+    let old = served_by c.args.turn.now c.args.self.now in
+    let new = served_by c.open_connection.new.turn c.open_connection.new.self in
     elim c.open_connection.ensures.welcomed [
       | inl (effects, taken) ↦ (
           let connected : HasConnected g.N.Network g.L.Observer c.args.now c.in-Some.peer effects old new =

@@ -1,14 +1,14 @@
 use Rattle.std.proofs.Common.{◌≡◌, true, false, ℕ, List, [], ◌∷◌, Some, length, refl, sym, subst, ◌∙◌, inl, inr, take, arith}
 use Rattle.std.proofs.lemmas.List.{with_items_is}
 use Rattle.dns_primary.specs.Step.{Datagram}
-use Rattle.dns_network.specs.Delivery.{served}
+use Rattle.dns_network.specs.Delivery.{served, served_by}
 use Rattle.dns_network.specs.Turn.{Asks, Happens}
 use Rattle.dns_network.proofs.Leads.{happened}
 use Rattle.dns_network.proofs.edge.Edge.receive.Goals as goal
 
 pub returns-in_default-clause-receives : goal.returns-in_default-clause-receives
 returns-in_default-clause-receives g c = λ now.
-    let new = served c.args.primary.now c.args.self.now c.receive.new.self c.args.notes.now in (
+    let new = served c.args.turn.now.primary.now c.args.self.now c.receive.new.self c.args.turn.now.notes.now in (
       Asks ∷ [],
       record {
         are = (new, record { rest = refl; nothing = inr (inl c.in_default.ensures.came) }, refl);
@@ -19,20 +19,20 @@ returns-in_default-clause-receives g c = λ now.
 
 pub returns-clause-receives : goal.returns-clause-receives
 returns-clause-receives g c = λ now.
-    let old = served c.args.primary.now c.args.self.now c.args.network.now c.args.notes.now in
-    let given = served c.args.primary.now c.args.self.now c.receive.new.self c.args.notes.now in
+    let old = served_by c.args.turn.now c.args.self.now in
+    let given = served c.args.turn.now.primary.now c.args.self.now c.receive.new.self c.args.turn.now.notes.now in
     let same : length c.receive.new.into ≡ c.args.self.now.buffer.len = omega (arith, c.receive.auto.into, c.deref_mut.ensures.len) in
-    let told = served c.happen-effects.new.primary c.args.self.now c.receive.new.self c.happen-effects.new.notes in
-    let new = served c.deliver.new.primary c.deliver.new.self c.deliver.new.network c.deliver.new.notes in
+    let told = served_by c.happen-effects.new.self c.args.self.now in
+    let new = served_by c.deliver.new.turn c.deliver.new.self in
     let octets = take c.in-Some.count c.deref.result.now in
     let event = Datagram c.in-Some.peer octets in
     let goings = c.deliver.ensures.happened.0 in
     let answered = happened g.S.Stream g.N.Network g.L.Observer now event c.happen-effects.result goings old given told new (
       refl,
-      subst (λ (buffer : List ℕ). g.N.Network.receives c.args.network.now (Some (take c.in-Some.count buffer, c.in-Some.peer)) c.receive.new.self)
+      subst (λ (buffer : List ℕ). g.N.Network.receives c.args.turn.now.network.now (Some (take c.in-Some.count buffer, c.in-Some.peer)) c.receive.new.self)
           (sym (c.deref.ensures.value ∙ with_items_is c.args.self.now.buffer c.receive.new.into same)) c.in-Some.ensures.came,
     )
-    c.happen-effects.ensures.takes c.happen-effects.ensures.observed refl c.deliver.ensures.happened.1 in (
+    c.happen-effects.ensures.takes c.happen-effects.ensures.observed refl c.happen-effects.ensures.network c.deliver.ensures.happened.1 in (
       Happens event c.happen-effects.result goings ∷ [],
       record {
         are = (new, answered, refl);

@@ -5,9 +5,9 @@ use Rattle.dns_primary.specs.Step.{Pump}
 use Rattle.dns_network.specs.Closing.{HasEnded, Stalled}
 use Rattle.dns_network.specs.Connection.{IsInUse, IsStalled, used_of}
 use Rattle.dns_network.specs.Connections.{IsOpenWith, HasPumped, has_left_at, is_open_at, places_of}
-use Rattle.dns_network.specs.Delivery.{connections_of, served}
+use Rattle.dns_network.specs.Delivery.{connections_of, served_by}
 use Rattle.dns_network.specs.Turn.{Closes, Happens, Moves}
-use Rattle.dns_network.proofs.Leads.{closes, ends, moves, standing}
+use Rattle.dns_network.proofs.Leads.{closes, ends, moves, standing_by}
 use Rattle.dns_network.specs.Turns.{MayStall}
 use Rattle.dns_network.proofs.Parts.{clashes, has_ended, is_none, left_open, moved_ended, moved_open, not_ended}
 use Rattle.dns_network.proofs.Used.{after_pump, is_gone, not_open, pumped_in_use, unused_left, stalled_left, written_now}
@@ -33,19 +33,21 @@ pub returns-in-Ended-clause-part : goal.returns-in-Ended-clause-part
 returns-in-Ended-clause-part g c =
     let now = c.args.now in
     let number = c.args.number in
-    let network = c.args.network.now in
+    let turn = c.args.turn.now in
     let here = connections_of c.args.self.now in
     let there = places_of c.write-moved.new.self in
     let left : has_left_at (slice_get here number) ≡ true = sym c.has_left.ensures ∙ c.if-has_left.true in
-    let closed = closes g.S.Stream g.N.Network g.L.Observer now number HasEnded c.args.primary.now c.close.new.primary network c.args.notes.now c.args.notes.now c.close.new.notes there (connections_of c.close.new.self)
-    (ends g.S.Stream now number c.write-moved.result here there c.in-Ended.is c.write-moved.ensures) refl c.close.ensures.told c.close.ensures.gone c.close.ensures.noted in (
+    let written = standing_by turn there in
+    let new = served_by c.close.new.turn c.close.new.self in
+    let closed = closes g.S.Stream g.N.Network g.L.Observer now number HasEnded written written new
+    (ends g.S.Stream now number c.write-moved.result here there c.in-Ended.is c.write-moved.ensures) refl c.close.ensures.closed in (
       Moves number c.write-moved.result ∷ Closes number HasEnded ∷ [],
       record {
         are = (
-          standing c.args.primary.now network c.args.notes.now there,
-          moves g.S.Stream g.N.Network g.L.Observer now number c.write-moved.result c.args.primary.now network c.args.notes.now here there
+          written,
+          moves g.S.Stream g.N.Network g.L.Observer now number c.write-moved.result turn.primary.now turn.network.now turn.notes.now here there
               (moved_ended g.S.Stream now number c.write-moved.result here there c.in-Ended.is c.write-moved.ensures),
-          (served c.close.new.primary c.close.new.self network c.close.new.notes, closed, refl),
+          (new, closed, refl),
         );
         closed = λ no. clashes (is_open_at (slice_get here number)) (left_open (slice_get here number) left) no;
         left = λ is. (c.write-moved.result, Closes number HasEnded ∷ [], refl, has_ended number c.write-moved.result (MayStall number) c.in-Ended.is);
@@ -58,20 +60,21 @@ pub returns-then-is_stalled-clause-part : goal.returns-then-is_stalled-clause-pa
 returns-then-is_stalled-clause-part g c =
     let now = c.args.now in
     let number = c.args.number in
-    let network = c.args.network.now in
+    let turn = c.args.turn.now in
     let here = connections_of c.args.self.now in
     let there = places_of c.write-moved.new.self in
     let left : has_left_at (slice_get here number) ≡ true = sym c.has_left.ensures ∙ c.if-has_left.true in
     let opened = left_open (slice_get here number) left in
-    let closed = closes g.S.Stream g.N.Network g.L.Observer now number Stalled c.args.primary.now c.close-then-is_stalled.new.primary network c.args.notes.now c.args.notes.now c.close-then-is_stalled.new.notes there
-    (connections_of c.close-then-is_stalled.new.self) (c.is_stalled.ensures.0 c.if-is_stalled.true) refl c.close-then-is_stalled.ensures.told c.close-then-is_stalled.ensures.gone c.close-then-is_stalled.ensures.noted in (
+    let written = standing_by turn there in
+    let new = served_by c.close-then-is_stalled.new.turn c.close-then-is_stalled.new.self in
+    let closed = closes g.S.Stream g.N.Network g.L.Observer now number Stalled written written new (c.is_stalled.ensures.0 c.if-is_stalled.true) refl c.close-then-is_stalled.ensures.closed in (
       Moves number c.write-moved.result ∷ Closes number Stalled ∷ [],
       record {
         are = (
-          standing c.args.primary.now network c.args.notes.now there,
-          moves g.S.Stream g.N.Network g.L.Observer now number c.write-moved.result c.args.primary.now network c.args.notes.now here there
+          written,
+          moves g.S.Stream g.N.Network g.L.Observer now number c.write-moved.result turn.primary.now turn.network.now turn.notes.now here there
               (moved_open g.S.Stream now number c.write-moved.result here there opened c.write-moved.ensures),
-          (served c.close-then-is_stalled.new.primary c.close-then-is_stalled.new.self network c.close-then-is_stalled.new.notes, closed, refl),
+          (new, closed, refl),
         );
         closed = λ no. clashes (is_open_at (slice_get here number)) opened no;
         left = λ is. (c.write-moved.result, Closes number Stalled ∷ [], refl, not_ended number c.write-moved.result (MayStall number) (Closes number Stalled ∷ []) c.in_default.not-Ended (inr refl));
@@ -95,8 +98,8 @@ returns-then-has_left-clause-part g c =
       Moves number c.write-moved.result ∷ [],
       record {
         are = (
-          standing c.args.primary.now c.args.network.now c.args.notes.now there,
-          moves g.S.Stream g.N.Network g.L.Observer c.args.now number c.write-moved.result c.args.primary.now c.args.network.now c.args.notes.now here there
+          standing_by c.args.turn.now there,
+          moves g.S.Stream g.N.Network g.L.Observer c.args.now number c.write-moved.result c.args.turn.now.primary.now c.args.turn.now.network.now c.args.turn.now.notes.now here there
               (moved_open g.S.Stream c.args.now number c.write-moved.result here there opened c.write-moved.ensures),
           refl,
         );
@@ -114,7 +117,7 @@ returns-then-pump-clause-part g c =
     let place = slice_get (connections_of c.args.self.now) number in
     let none : has_left_at place ≡ false = sym c.has_left.ensures ∙ c.if-has_left.false in
     let opened : is_open_at place ≡ true = sym c.is_open.ensures ∙ c.if-not-is_open.false in
-    let new = served c.pump.new.primary c.pump.new.self c.pump.new.network c.pump.new.notes in
+    let new = served_by c.pump.new.turn c.pump.new.self in
     let (effects, goings, told, pumps) = c.pump.ensures.pumps c.args.now in (
       Happens (Pump number) effects goings ∷ [],
       record {
@@ -141,7 +144,7 @@ returns-clause-part g c =
     let place = slice_get (connections_of c.args.self.now) number in
     let none : has_left_at place ≡ false = sym c.has_left.ensures ∙ c.if-has_left.false in
     let opened : is_open_at place ≡ true = sym c.is_open.ensures ∙ c.if-not-is_open.false in
-    let mid = served c.pump.new.primary c.pump.new.self c.pump.new.network c.pump.new.notes in
+    let mid = served_by c.pump.new.turn c.pump.new.self in
     let (effects, goings, told, pumps) = c.pump.ensures.pumps c.args.now in
     let (rest, reading, idle) = c.read_piece.ensures.reads in
     let no_message : is_some effects.message ≡ false = sym told ∙ c.if-pump.false in (
@@ -171,18 +174,18 @@ pub returns-then-not-is_open-clause-silent : goal.returns-then-not-is_open-claus
 returns-then-not-is_open-clause-silent g c = λ m kept silent. not_open (IsInUse c.args.now) (slice_get (connections_of c.args.self.now) c.args.number) (sym c.is_open.ensures ∙ c.if-not-is_open.true)
 
 pub returns-in-Ended-clause-stalled : goal.returns-in-Ended-clause-stalled
-returns-in-Ended-clause-stalled g c = λ stalled. is_gone (λ d. used_of d ≡ c.args.now) c.args.number (places_of c.write-moved.new.self) (connections_of c.close.new.self) c.close.ensures.gone
+returns-in-Ended-clause-stalled g c = λ stalled. is_gone (λ d. used_of d ≡ c.args.now) c.args.number (places_of c.write-moved.new.self) (connections_of c.close.new.self) c.close.ensures.closed.gone
 
 pub returns-in-Ended-clause-silent : goal.returns-in-Ended-clause-silent
-returns-in-Ended-clause-silent g c = λ m kept silent. is_gone (IsInUse c.args.now) c.args.number (places_of c.write-moved.new.self) (connections_of c.close.new.self) c.close.ensures.gone
+returns-in-Ended-clause-silent g c = λ m kept silent. is_gone (IsInUse c.args.now) c.args.number (places_of c.write-moved.new.self) (connections_of c.close.new.self) c.close.ensures.closed.gone
 
 pub returns-then-is_stalled-clause-stalled : goal.returns-then-is_stalled-clause-stalled
 returns-then-is_stalled-clause-stalled g c = λ stalled.
-    is_gone (λ d. used_of d ≡ c.args.now) c.args.number (places_of c.write-moved.new.self) (connections_of c.close-then-is_stalled.new.self) c.close-then-is_stalled.ensures.gone
+    is_gone (λ d. used_of d ≡ c.args.now) c.args.number (places_of c.write-moved.new.self) (connections_of c.close-then-is_stalled.new.self) c.close-then-is_stalled.ensures.closed.gone
 
 pub returns-then-is_stalled-clause-silent : goal.returns-then-is_stalled-clause-silent
 returns-then-is_stalled-clause-silent g c = λ m kept silent.
-    is_gone (IsInUse c.args.now) c.args.number (places_of c.write-moved.new.self) (connections_of c.close-then-is_stalled.new.self) c.close-then-is_stalled.ensures.gone
+    is_gone (IsInUse c.args.now) c.args.number (places_of c.write-moved.new.self) (connections_of c.close-then-is_stalled.new.self) c.close-then-is_stalled.ensures.closed.gone
 
 -- where octets were left to write
 pub returns-then-has_left-clause-stalled : goal.returns-then-has_left-clause-stalled

@@ -1,7 +1,8 @@
 use Rattle.std.proofs.Common.{◌≡◌, ◌≤◌, ◌∙◌, rules, ℕ, true, false, [], inl, inr, refl, sym, subst, length, Some, arith}
-use Rattle.dns_network.specs.Delivery.{connections_of, rested_of, served}
+use Rattle.dns_network.specs.Delivery.{connections_of, rested_of, served_by}
 use Rattle.dns_network.specs.Turns.{EachHasItsPart}
 use Rattle.dns_network.proofs.Gone.{all_stalled, all_unused, none_visited, one_visited}
+use Rattle.dns_network.proofs.Leads.{same_on}
 use Rattle.dns_network.proofs.edge.Edge.serve_connections.Goals as goal
 use Rattle.dns_network.proofs.edge.Edge.serve_connections.Goals.{then-serve_connection, else-serve_connection}
 
@@ -12,13 +13,13 @@ returns-then-is_still-clause-serves g c =
 
 pub loop-number-init : goal.loop-number-init
 loop-number-init g c =
-    none_visited g.S.Stream g.N.Network g.L.Observer c.args.now (served c.args.primary.now c.args.self.now c.args.network.now c.args.notes.now)
+    (none_visited g.S.Stream g.N.Network g.L.Observer c.args.now (served_by c.args.turn.now c.args.self.now), (refl, refl, refl))
 
 pub loop-number-preserved : goal.loop-number-preserved
 loop-number-preserved g c =
-    one_visited g.S.Stream g.N.Network g.L.Observer c.args.now c.loop-number.number c.loop-number.is_done c.serve_connection.result c.if-serve_connection.is_done (served c.args.primary.now c.args.self.now c.args.network.now c.args.notes.now)
-    (served c.loop-number.primary c.loop-number.self c.loop-number.network c.loop-number.notes)
-    (served c.serve_connection.new.primary c.serve_connection.new.self c.serve_connection.new.network c.serve_connection.new.notes)
+    let visited = one_visited g.S.Stream g.N.Network g.L.Observer c.args.now c.loop-number.number c.loop-number.is_done c.serve_connection.result c.if-serve_connection.is_done (served_by c.args.turn.now c.args.self.now)
+    (served_by c.loop-number.turn c.loop-number.self)
+    (served_by c.serve_connection.new.turn c.serve_connection.new.self)
     (λ none. elim c.if-serve_connection.branch [
       | then-serve_connection w ↦ absurd (let clash : true ≡ false = sym w.is_done-is ∙ none in cc)
       | else-serve_connection w ↦ sym w.is_done-is ∙ none
@@ -27,25 +28,26 @@ loop-number-preserved g c =
       | then-serve_connection w ↦ absurd (let clash : true ≡ false = sym w.is_done-is ∙ none in cc)
       | else-serve_connection w ↦ w.if-serve_connection.false
     ])
-    c.loop-number.invariant c.serve_connection.ensures.part (λ e kept. c.serve_connection.ensures.silent e kept) c.serve_connection.ensures.stalled
+    c.loop-number.invariant.0 c.serve_connection.ensures.part (λ e kept. c.serve_connection.ensures.silent e kept) c.serve_connection.ensures.stalled in
+    (visited, same_on c.args.turn.now c.loop-number.turn c.serve_connection.new.turn c.loop-number.invariant.1 c.serve_connection.ensures.same)
 
 pub returns-clause-unused : goal.returns-clause-unused
 returns-clause-unused g c = λ not m kept.
     let all : length (connections_of c.args.self.now) ≤ c.loop-number.number = omega (arith, c.loop-number-test.false, c.loop-number.auto.number-end, c.place_count-number-end.ensures) in
-    all_unused g.S.Stream g.N.Network g.L.Observer c.args.now c.loop-number.number c.loop-number.is_done (served c.args.primary.now c.args.self.now c.args.network.now c.args.notes.now)
-    (served c.loop-number.primary c.loop-number.self c.loop-number.network c.loop-number.notes) all c.loop-number.invariant m kept
+    all_unused g.S.Stream g.N.Network g.L.Observer c.args.now c.loop-number.number c.loop-number.is_done (served_by c.args.turn.now c.args.self.now)
+    (served_by c.loop-number.turn c.loop-number.self) all c.loop-number.invariant.0 m kept
 
 pub returns-clause-stalled : goal.returns-clause-stalled
 returns-clause-stalled g c = λ not.
     let all : length (connections_of c.args.self.now) ≤ c.loop-number.number = omega (arith, c.loop-number-test.false, c.loop-number.auto.number-end, c.place_count-number-end.ensures) in
-    all_stalled g.S.Stream g.N.Network g.L.Observer c.args.now c.loop-number.number c.loop-number.is_done (served c.args.primary.now c.args.self.now c.args.network.now c.args.notes.now)
-    (served c.loop-number.primary c.loop-number.self c.loop-number.network c.loop-number.notes) all c.loop-number.invariant
+    all_stalled g.S.Stream g.N.Network g.L.Observer c.args.now c.loop-number.number c.loop-number.is_done (served_by c.args.turn.now c.args.self.now)
+    (served_by c.loop-number.turn c.loop-number.self) all c.loop-number.invariant.0
 
 pub returns-clause-serves : goal.returns-clause-serves
 returns-clause-serves g c =
-    let old = served c.args.primary.now c.args.self.now c.args.network.now c.args.notes.now in
-    let new = served c.loop-number.primary c.loop-number.self c.loop-number.network c.loop-number.notes in
-    let (moments, each, idle) = c.loop-number.invariant.parts in
+    let old = served_by c.args.turn.now c.args.self.now in
+    let new = served_by c.loop-number.turn c.loop-number.self in
+    let (moments, each, idle) = c.loop-number.invariant.0.parts in
     let all : c.loop-number.number ≡ length (connections_of c.args.self.now) =
     omega (arith, c.loop-number-test.false, c.loop-number.auto.number-end, c.place_count-number-end.ensures) in
     (moments, inl (subst (λ (k : ℕ). EachHasItsPart g.S.Stream g.N.Network g.L.Observer c.args.now k moments old new) all each), idle)

@@ -1,6 +1,6 @@
 use Rattle.std.proofs.Common.{◌≡◌, true, false, [], ◌∷◌, ◌++◌, Some, refl, inr}
 use Rattle.dns_primary.specs.Step.{Flush}
-use Rattle.dns_network.specs.Delivery.{rested_of, served}
+use Rattle.dns_network.specs.Delivery.{rested_of, served, served_by}
 use Rattle.dns_network.specs.Turn.{Asks, Happens}
 use Rattle.dns_network.proofs.Gone.{stalled_after, stalled_between, unused_after, unused_between}
 use Rattle.dns_network.proofs.Leads.{MomentsLead, flush_after, happened, happens, none_waits, not_flushed}
@@ -10,10 +10,10 @@ use Rattle.dns_network.proofs.edge.Edge.work.Goals as goal
 pub returns-else-has_waiting-clause-done : goal.returns-else-has_waiting-clause-done
 returns-else-has_waiting-clause-done g c =
     let now = c.args.now in
-    let old = served c.args.primary.now c.args.self.now c.args.network.now c.args.notes.now in
-    let accepted = served c.accept-accepted.new.primary c.accept-accepted.new.self c.accept-accepted.new.network c.accept-accepted.new.notes in
-    let received = served c.receive-received.new.primary c.receive-received.new.self c.receive-received.new.network c.receive-received.new.notes in
-    let done = served c.serve_connections-visited.new.primary c.serve_connections-visited.new.self c.serve_connections-visited.new.network c.serve_connections-visited.new.notes in
+    let old = served_by c.args.turn.now c.args.self.now in
+    let accepted = served_by c.accept-accepted.new.turn c.accept-accepted.new.self in
+    let received = served_by c.receive-received.new.turn c.receive-received.new.self in
+    let done = served_by c.serve_connections-visited.new.turn c.serve_connections-visited.new.self in
     let (accepting, accepts) = c.accept-accepted.ensures.accepts in
     let (receiving, receives) = c.receive-received.ensures.receives now in
     let (serving, serves, idle) = c.serve_connections-visited.ensures.serves in
@@ -25,7 +25,7 @@ returns-else-has_waiting-clause-done g c =
       not_flushed g.S.Stream g.N.Network g.L.Observer now rested moments old done
           (parts_moments g.S.Stream g.N.Network g.L.Observer now rested after accepting receiving serving c.accept-accepted.result c.receive-received.result old accepted received done accepts receives serves)
           (parts_are g.S.Stream g.N.Network g.L.Observer now rested after accepting receiving serving c.accept-accepted.result c.receive-received.result old accepted received done accepts receives serves rests)
-          (none_waits c.serve_connections-visited.new.primary c.has_waiting.result c.has_waiting.ensures c.if-has_waiting.false),
+          (none_waits c.serve_connections-visited.new.turn.primary.now c.has_waiting.result c.has_waiting.ensures c.if-has_waiting.false),
       λ none.
           let (not_accepted, not_received, not_visited) = none_of_three c.accept-accepted.result c.receive-received.result c.serve_connections-visited.result none in
           idle_on moments []
@@ -34,25 +34,25 @@ returns-else-has_waiting-clause-done g c =
     )
 
 pub returns-else-has_waiting-clause-idle : goal.returns-else-has_waiting-clause-idle
-returns-else-has_waiting-clause-idle g c = λ idle. none_waits c.serve_connections-visited.new.primary c.has_waiting.result c.has_waiting.ensures c.if-has_waiting.false
+returns-else-has_waiting-clause-idle g c = λ idle. none_waits c.serve_connections-visited.new.turn.primary.now c.has_waiting.result c.has_waiting.ensures c.if-has_waiting.false
 
 pub returns-then-has_waiting-clause-done : goal.returns-then-has_waiting-clause-done
 returns-then-has_waiting-clause-done g c =
     let now = c.args.now in
-    let old = served c.args.primary.now c.args.self.now c.args.network.now c.args.notes.now in
-    let accepted = served c.accept-accepted.new.primary c.accept-accepted.new.self c.accept-accepted.new.network c.accept-accepted.new.notes in
-    let received = served c.receive-received.new.primary c.receive-received.new.self c.receive-received.new.network c.receive-received.new.notes in
-    let done = served c.serve_connections-visited.new.primary c.serve_connections-visited.new.self c.serve_connections-visited.new.network c.serve_connections-visited.new.notes in
+    let old = served_by c.args.turn.now c.args.self.now in
+    let accepted = served_by c.accept-accepted.new.turn c.accept-accepted.new.self in
+    let received = served_by c.receive-received.new.turn c.receive-received.new.self in
+    let done = served_by c.serve_connections-visited.new.turn c.serve_connections-visited.new.self in
     let (accepting, accepts) = c.accept-accepted.ensures.accepts in
     let (receiving, receives) = c.receive-received.ensures.receives now in
     let (serving, serves, idle) = c.serve_connections-visited.ensures.serves in
     let rested = rested_of c.args.self.now in
     let after = rested_of c.receive-received.new.self in
     let rests = λ (is : after ≡ Some now). c.accept-accepted.ensures.rested now (c.receive-received.ensures.rested now is) in
-    let looked = served c.serve_connections-visited.new.primary c.serve_connections-visited.new.self c.look.new.self c.serve_connections-visited.new.notes in
-    let told = served c.happen-effects.new.primary c.serve_connections-visited.new.self c.look.new.self c.happen-effects.new.notes in
-    let flushed = served c.deliver.new.primary c.deliver.new.self c.deliver.new.network c.deliver.new.notes in
-    let new = served c.deliver.new.primary c.deliver.new.self c.look-then-has_waiting.new.self c.deliver.new.notes in
+    let looked = served c.serve_connections-visited.new.turn.primary.now c.serve_connections-visited.new.self c.look.new.self c.serve_connections-visited.new.turn.notes.now in
+    let told = served_by c.happen-effects.new.self c.serve_connections-visited.new.self in
+    let flushed = served_by c.deliver.new.turn c.deliver.new.self in
+    let new = served c.deliver.new.turn.primary.now c.deliver.new.self c.look-then-has_waiting.new.self c.deliver.new.turn.notes.now in
     let goings = c.deliver.ensures.happened.0 in
     let moments = accepting ++ receiving ++ serving in (
       moments ++ Asks ∷ Happens Flush c.happen-effects.result goings ∷ Asks ∷ [],
@@ -60,7 +60,7 @@ returns-then-has_waiting-clause-done g c =
           (parts_moments g.S.Stream g.N.Network g.L.Observer now rested after accepting receiving serving c.accept-accepted.result c.receive-received.result old accepted received done accepts receives serves)
           (parts_are g.S.Stream g.N.Network g.L.Observer now rested after accepting receiving serving c.accept-accepted.result c.receive-received.result old accepted received done accepts receives serves rests)
           (record { rest = refl; nothing = inr (inr c.look.ensures) })
-          (happened g.S.Stream g.N.Network g.L.Observer now Flush c.happen-effects.result goings looked looked told flushed refl c.happen-effects.ensures.takes c.happen-effects.ensures.observed refl c.deliver.ensures.happened.1)
+          (happened g.S.Stream g.N.Network g.L.Observer now Flush c.happen-effects.result goings looked looked told flushed refl c.happen-effects.ensures.takes c.happen-effects.ensures.observed refl c.happen-effects.ensures.network c.deliver.ensures.happened.1)
           (record { rest = refl; nothing = inr (inr c.look-then-has_waiting.ensures) }),
       λ none. absurd (let clash : true ≡ false = none in cc),
     )
@@ -69,10 +69,10 @@ returns-then-has_waiting-clause-done g c =
 pub returns-else-has_waiting-clause-unused : goal.returns-else-has_waiting-clause-unused
 returns-else-has_waiting-clause-unused g c = λ not m kept.
     let now = c.args.now in
-    let old = served c.args.primary.now c.args.self.now c.args.network.now c.args.notes.now in
-    let accepted = served c.accept-accepted.new.primary c.accept-accepted.new.self c.accept-accepted.new.network c.accept-accepted.new.notes in
-    let received = served c.receive-received.new.primary c.receive-received.new.self c.receive-received.new.network c.receive-received.new.notes in
-    let done = served c.serve_connections-visited.new.primary c.serve_connections-visited.new.self c.serve_connections-visited.new.network c.serve_connections-visited.new.notes in
+    let old = served_by c.args.turn.now c.args.self.now in
+    let accepted = served_by c.accept-accepted.new.turn c.accept-accepted.new.self in
+    let received = served_by c.receive-received.new.turn c.receive-received.new.self in
+    let done = served_by c.serve_connections-visited.new.turn c.serve_connections-visited.new.self in
     let (accepting, accepts) = c.accept-accepted.ensures.accepts in
     let (receiving, receives) = c.receive-received.ensures.receives now in
     let (serving, serves, idle) = c.serve_connections-visited.ensures.serves in
@@ -87,10 +87,10 @@ returns-else-has_waiting-clause-unused g c = λ not m kept.
 pub returns-else-has_waiting-clause-stalled : goal.returns-else-has_waiting-clause-stalled
 returns-else-has_waiting-clause-stalled g c = λ not.
     let now = c.args.now in
-    let old = served c.args.primary.now c.args.self.now c.args.network.now c.args.notes.now in
-    let accepted = served c.accept-accepted.new.primary c.accept-accepted.new.self c.accept-accepted.new.network c.accept-accepted.new.notes in
-    let received = served c.receive-received.new.primary c.receive-received.new.self c.receive-received.new.network c.receive-received.new.notes in
-    let done = served c.serve_connections-visited.new.primary c.serve_connections-visited.new.self c.serve_connections-visited.new.network c.serve_connections-visited.new.notes in
+    let old = served_by c.args.turn.now c.args.self.now in
+    let accepted = served_by c.accept-accepted.new.turn c.accept-accepted.new.self in
+    let received = served_by c.receive-received.new.turn c.receive-received.new.self in
+    let done = served_by c.serve_connections-visited.new.turn c.serve_connections-visited.new.self in
     let (accepting, accepts) = c.accept-accepted.ensures.accepts in
     let (receiving, receives) = c.receive-received.ensures.receives now in
     let (serving, serves, idle) = c.serve_connections-visited.ensures.serves in
@@ -105,10 +105,10 @@ returns-else-has_waiting-clause-stalled g c = λ not.
 pub returns-then-has_waiting-clause-unused : goal.returns-then-has_waiting-clause-unused
 returns-then-has_waiting-clause-unused g c = λ not m kept.
     let now = c.args.now in
-    let old = served c.args.primary.now c.args.self.now c.args.network.now c.args.notes.now in
-    let accepted = served c.accept-accepted.new.primary c.accept-accepted.new.self c.accept-accepted.new.network c.accept-accepted.new.notes in
-    let received = served c.receive-received.new.primary c.receive-received.new.self c.receive-received.new.network c.receive-received.new.notes in
-    let done = served c.serve_connections-visited.new.primary c.serve_connections-visited.new.self c.serve_connections-visited.new.network c.serve_connections-visited.new.notes in
+    let old = served_by c.args.turn.now c.args.self.now in
+    let accepted = served_by c.accept-accepted.new.turn c.accept-accepted.new.self in
+    let received = served_by c.receive-received.new.turn c.receive-received.new.self in
+    let done = served_by c.serve_connections-visited.new.turn c.serve_connections-visited.new.self in
     let (accepting, accepts) = c.accept-accepted.ensures.accepts in
     let (receiving, receives) = c.receive-received.ensures.receives now in
     let (serving, serves, idle) = c.serve_connections-visited.ensures.serves in
@@ -118,19 +118,19 @@ returns-then-has_waiting-clause-unused g c = λ not m kept.
     let first : MomentsLead g.S.Stream g.N.Network g.L.Observer now old received = (accepting ++ receiving, moments_on g.S.Stream g.N.Network g.L.Observer now accepting receiving old accepted received accepts.are receives.are) in
     let leads = served_leads g.S.Stream g.N.Network g.L.Observer now after serving received done serves in
     let visits = λ (is : after ≡ Some now). not (rests is) in
-    let looked = served c.serve_connections-visited.new.primary c.serve_connections-visited.new.self c.look.new.self c.serve_connections-visited.new.notes in
-    let told = served c.happen-effects.new.primary c.serve_connections-visited.new.self c.look.new.self c.happen-effects.new.notes in
-    let flushed = served c.deliver.new.primary c.deliver.new.self c.deliver.new.network c.deliver.new.notes in
-    let flush = happens g.S.Stream g.N.Network g.L.Observer now Flush c.happen-effects.result looked looked told flushed refl c.happen-effects.ensures.takes c.happen-effects.ensures.observed refl c.deliver.ensures.happened in
+    let looked = served c.serve_connections-visited.new.turn.primary.now c.serve_connections-visited.new.self c.look.new.self c.serve_connections-visited.new.turn.notes.now in
+    let told = served_by c.happen-effects.new.self c.serve_connections-visited.new.self in
+    let flushed = served_by c.deliver.new.turn c.deliver.new.self in
+    let flush = happens g.S.Stream g.N.Network g.L.Observer now Flush c.happen-effects.result looked looked told flushed refl c.happen-effects.ensures.takes c.happen-effects.ensures.observed refl c.happen-effects.ensures.network c.deliver.ensures.happened in
     unused_after g.S.Stream g.N.Network g.L.Observer now old.connections looked flushed (unused_between g.S.Stream g.N.Network g.L.Observer now old received done first leads (λ e kept'. c.serve_connections-visited.ensures.unused visits e kept') m kept) flush
 
 pub returns-then-has_waiting-clause-stalled : goal.returns-then-has_waiting-clause-stalled
 returns-then-has_waiting-clause-stalled g c = λ not.
     let now = c.args.now in
-    let old = served c.args.primary.now c.args.self.now c.args.network.now c.args.notes.now in
-    let accepted = served c.accept-accepted.new.primary c.accept-accepted.new.self c.accept-accepted.new.network c.accept-accepted.new.notes in
-    let received = served c.receive-received.new.primary c.receive-received.new.self c.receive-received.new.network c.receive-received.new.notes in
-    let done = served c.serve_connections-visited.new.primary c.serve_connections-visited.new.self c.serve_connections-visited.new.network c.serve_connections-visited.new.notes in
+    let old = served_by c.args.turn.now c.args.self.now in
+    let accepted = served_by c.accept-accepted.new.turn c.accept-accepted.new.self in
+    let received = served_by c.receive-received.new.turn c.receive-received.new.self in
+    let done = served_by c.serve_connections-visited.new.turn c.serve_connections-visited.new.self in
     let (accepting, accepts) = c.accept-accepted.ensures.accepts in
     let (receiving, receives) = c.receive-received.ensures.receives now in
     let (serving, serves, idle) = c.serve_connections-visited.ensures.serves in
@@ -140,10 +140,10 @@ returns-then-has_waiting-clause-stalled g c = λ not.
     let first : MomentsLead g.S.Stream g.N.Network g.L.Observer now old received = (accepting ++ receiving, moments_on g.S.Stream g.N.Network g.L.Observer now accepting receiving old accepted received accepts.are receives.are) in
     let leads = served_leads g.S.Stream g.N.Network g.L.Observer now after serving received done serves in
     let visits = λ (is : after ≡ Some now). not (rests is) in
-    let looked = served c.serve_connections-visited.new.primary c.serve_connections-visited.new.self c.look.new.self c.serve_connections-visited.new.notes in
-    let told = served c.happen-effects.new.primary c.serve_connections-visited.new.self c.look.new.self c.happen-effects.new.notes in
-    let flushed = served c.deliver.new.primary c.deliver.new.self c.deliver.new.network c.deliver.new.notes in
-    let flush = happens g.S.Stream g.N.Network g.L.Observer now Flush c.happen-effects.result looked looked told flushed refl c.happen-effects.ensures.takes c.happen-effects.ensures.observed refl c.deliver.ensures.happened in
+    let looked = served c.serve_connections-visited.new.turn.primary.now c.serve_connections-visited.new.self c.look.new.self c.serve_connections-visited.new.turn.notes.now in
+    let told = served_by c.happen-effects.new.self c.serve_connections-visited.new.self in
+    let flushed = served_by c.deliver.new.turn c.deliver.new.self in
+    let flush = happens g.S.Stream g.N.Network g.L.Observer now Flush c.happen-effects.result looked looked told flushed refl c.happen-effects.ensures.takes c.happen-effects.ensures.observed refl c.happen-effects.ensures.network c.deliver.ensures.happened in
     stalled_after g.S.Stream g.N.Network g.L.Observer now old.connections looked flushed (stalled_between g.S.Stream g.N.Network g.L.Observer now old received done first leads (c.serve_connections-visited.ensures.stalled visits)) flush
 
 pub returns-then-has_waiting-clause-rested : goal.returns-then-has_waiting-clause-rested
