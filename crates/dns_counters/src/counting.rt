@@ -1,46 +1,53 @@
-//! An observer that counts what another is told of.
+//! Counts of what an observer of turns is told.
 ghost use Rattle.std.specs.Prelude.{◌≡◌};
+ghost use Rattle.dns_primary.specs.Steps.{event_shown};
 ghost use Rattle.dns_network.specs.Notes.{OfEvent, OfNote};
 ghost use Rattle.dns_counters.specs.Counters.{counted};
 ghost use Rattle.dns_counters.specs.declared.counters.Counters.{Counters as StatedCounters};
 
 use crate::Counters;
-use dns_network::{Note, Observer};
+use dns_network::Note;
 use dns_primary::{Effects, Event};
 
-/// Counts all that it is told of, if it is to, and hands it on to another observer.
-pub struct Counting<L> {
+/// Counts what it is told of, if it is to.
+#[derive(Clone, Copy, Debug, PartialEq, Eq)]
+pub struct Counting {
     /// What was counted.
     pub counters: Counters,
     /// Whether it counts.
     pub is_on: bool,
-    /// Who is told besides.
-    pub notes: L,
 }
 
-impl<L: Observer> Observer for Counting<L> {
-    ghost takes = { λ old note new. L.takes old.notes note new.notes
-        × (new.is_on ≡ old.is_on)
-        × (new.counters ≡ counted old.is_on old.counters (OfNote note)) };
+impl Counting {
+    /// One that has counted nothing.
+    pub fn new(is_on: bool) -> Counting {
+        Counting {
+            counters: Counters::new(),
+            is_on,
+        }
+    }
 
-    ghost observes = { λ old event effects new. L.observes old.notes event effects new.notes
-        × (new.is_on ≡ old.is_on)
-        × (new.counters ≡ counted old.is_on old.counters (OfEvent event effects)) };
-
+    /// Counts a note.
     #[inline]
-    fn note(&mut self, note: Note) {
+    pub fn note(&mut self, note: Note)
+        ensures on { self.new.is_on ≡ self.old.is_on }
+        ensures counted { self.new.counters ≡ counted self.old.is_on self.old.counters (OfNote note) }
+    {
         if self.is_on {
             self.counters.count_note(note);
         }
-        self.notes.note(note);
     }
 
+    /// Counts what an event did.
     #[inline]
-    fn observe(&mut self, event: Event<'_>, effects: &Effects) {
+    pub fn observe(&mut self, event: Event<'_>, effects: &Effects)
+        ensures on { self.new.is_on ≡ self.old.is_on }
+        ensures counted { self.new.counters
+            ≡ counted self.old.is_on self.old.counters (OfEvent (event_shown event.entry) effects.now) }
+    {
         if self.is_on {
             self.counters.count_event(event, effects);
         }
-        self.notes.observe(event, effects);
     }
 }
 
@@ -52,12 +59,4 @@ pub trait Counted {
     /// What was counted.
     fn counters(&self) -> &Counters
         ensures { result.now ≡ counts self.now };
-}
-
-impl<L> Counted for Counting<L> {
-    ghost counts = { λ counting. counting.counters };
-
-    fn counters(&self) -> &Counters {
-        &self.counters
-    }
 }

@@ -4,7 +4,7 @@ ghost use Rattle.std.specs.Prelude.{None};
 
 use crate::clients::{Act, Clients};
 use crate::given::device;
-use dns_configuration::{DONE, File, REFUSED};
+use dns_configuration::{DONE, FAILED, File, REFUSED};
 use dns_devices::Devices;
 use dns_memory::{Heap, heap};
 use dns_sectors::{DeviceError, MemorySectors, OpenDeviceError, Sector, Sectors};
@@ -277,17 +277,21 @@ fn served(rt: &HostRuntime, heap: Heap, clients: &mut Clients<'_>, turns: u32) -
     let options = ServeOptions {
         turns: u64::from(turns),
         is_quiet: false,
+        count_every: 0,
         explain: false,
     };
-    Ok(serve::<MemorySectors, _, RecordList, _, _>(
+    let mut out = Vec::new(alloc);
+    let status = serve::<MemorySectors, _, RecordList, _, _, _>(
         alloc,
         heap,
         rt,
         &mut devices,
         &config,
         options,
+        &mut out,
         clients,
-    ))
+    );
+    Ok(if out.is_empty() { status } else { FAILED })
 }
 
 /// Whether the log is what a run says.
@@ -342,18 +346,21 @@ fn refuses(rt: &HostRuntime, heap: Heap, root: &'static [u8], told: &str) -> io:
     let options = ServeOptions {
         turns: 1,
         is_quiet: false,
+        count_every: 0,
         explain: true,
     };
-    let status = serve::<MemorySectors, _, RecordList, _, _>(
+    let mut out = Vec::new(rt.alloc());
+    let status = serve::<MemorySectors, _, RecordList, _, _, _>(
         rt.alloc(),
         heap,
         rt,
         &mut devices,
         &config,
         options,
+        &mut out,
         &mut err,
     );
-    Ok(status == REFUSED && err.as_slice() == told.as_bytes())
+    Ok(status == REFUSED && out.is_empty() && err.as_slice() == told.as_bytes())
 }
 
 #[test]

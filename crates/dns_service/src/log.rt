@@ -14,6 +14,7 @@ ghost use Rattle.dns_service.specs.Verdict.{by_verdict, line_verdict, none_in};
 use crate::slots::set;
 use crate::transfer_lines::{Transfer, add_transfer, is_beside_transfers, keep_transfers};
 use crate::update_lines::{add_event, have_no_line};
+use dns_counters::{Counted, Counters, Counting};
 use dns_memory::Heap;
 use dns_names::Name;
 use dns_network::{Note, Observer};
@@ -180,6 +181,8 @@ pub(crate) struct Log<'a, E: Write> {
     pub(crate) counts: Counts,
     /// Whether a line couldn't be written.
     pub(crate) has_failed: bool,
+    /// What was counted, if it is to be.
+    pub(crate) counting: Counting,
 }
 
 impl<E: Write> Log<'_, E> {
@@ -392,6 +395,7 @@ impl<E: Write> Observer for Log<'_, E> {
     /// A turn in which nothing is said costs two comparisons.
     #[inline]
     fn note(&mut self, note: Note) {
+        self.counting.note(note);
         if let Note::Ends = note {
             if !self.lines.is_empty() {
                 if let Err(_) = self.write_out() {
@@ -409,6 +413,7 @@ impl<E: Write> Observer for Log<'_, E> {
     /// An event of which nothing is said, as a query that is answered, costs some comparisons.
     #[inline]
     fn observe(&mut self, event: Event<'_>, effects: &Effects) {
+        self.counting.observe(event, effects);
         let is_quiet = self.is_quiet;
         if is_quiet {
             return;
@@ -417,5 +422,13 @@ impl<E: Write> Observer for Log<'_, E> {
             return;
         }
         self.report(event, effects);
+    }
+}
+
+impl<E: Write> Counted for Log<'_, E> {
+    ghost counts = { λ log. log.counting.counters };
+
+    fn counters(&self) -> &Counters {
+        &self.counting.counters
     }
 }

@@ -13,6 +13,7 @@ use crate::log::{Counts, Log};
 use crate::opening::{Refusal, close_stores, open_primary};
 use crate::sockets::Sockets;
 use dns_configuration::{DONE, FAILED, File, ZoneSettings, origins_of, read_configuration, tell};
+use dns_counters::{CountLines, Counted, Counting};
 use dns_devices::{Devices, tell_device};
 use dns_memory::Heap;
 use dns_names::Name;
@@ -117,26 +118,35 @@ fn pause<R: Clock, S, N: Network<S>>(
     seconds(rt, start, now)
 }
 
-/// Makes so many turns, and waits after each one in which nothing was done.
-fn run<R: Clock, I: ZoneIndex, D: ZoneStore, S: Stream + Drop, N: Network<S>, L: Observer>(
-    heap: Heap,
-    rt: &R,
+/// Makes the turns of a service, waits after each one in which nothing was done, and tells the counts.
+fn run<
+    R: Clock,
+    I: ZoneIndex,
+    D: ZoneStore,
+    S: Stream + Drop,
+    N: Network<S>,
+    L: Observer + Counted,
+    O: Write,
+>(
+    service: &Service<'_, R>,
     primary: &mut Primary<I, D>,
     network: &mut N,
     notes: &mut L,
-    turns: u64,
+    counts: &mut CountLines<'_, O>,
 ) -> io::Result<()>
     ensures { MatchResult result
-        (λ _. IsServedOn S.Stream N.Network L.Observer turns primary.old network.old notes.old primary.new
-        network.new notes.new)
+        (λ _. IsServedOn S.Stream N.Network L.Observer service.now.turns primary.old network.old notes.old
+        primary.new network.new notes.new)
         (λ _. primary.new ≡ primary.old) }
 {
+    let (heap, rt) = (service.heap, service.rt);
     let mut edge: Edge<S> = Edge::new(heap)?;
     let start = Instant::now(rt)?;
     let mut now = 0;
-    for turn in 0..turns {
+    for turn in 0..service.turns {
         now = poll(rt, &start, network, turn, now);
         let is_done = edge.turn(heap, network, primary, notes, now);
+        counts.tell_if_due(heap, notes.counters(), primary, now);
         now = pause(rt, &start, network, is_done, now);
     }
     Ok(())
@@ -150,81 +160,9 @@ fn tell_unavailable<E: Write>(err: &mut E, address: Option<SocketAddr>) -> io::R
     }
 }
 
-/// Listens on these addresses, and makes so many turns.
-fn listen<R: Net + Clock, I: ZoneIndex, S: ZoneStore, E: Write>(
-    heap: Heap,
-    rt: &R,
-    primary: &mut Primary<I, S>,
-    origins: &[Name],
-    addresses: &[SocketAddr],
-    turns: u64,
-    is_quiet: bool,
-    err: &mut E,
-) -> io::Result<u8>
-    ensures run { HasRun (λ m. IsKept primary.old m) (IsLedTo primary.old primary.new) }
-    ensures ended { IfOk result (λ status. (status ≡ FAILED)
-        ⊎ ((status ≡ DONE)
-        × HasTurned turns
-        (λ told _. IsLogOf [] is_quiet origins.now addresses.now (E.contents err.old)
-        (E.contents err.new) told)
-        (λ m. IsKept primary.old m) (IsLedTo primary.old primary.new))) }
-{
-    let mut sockets = match Sockets::bind(heap, rt, addresses) {
-        Ok(sockets) => sockets,
-        Err(address) => {
-            tell_unavailable(err, address)?;
-            return Ok(FAILED);
-        }
-    };
-    tell_listening(err, addresses)?;
-    let mut lines = Vec::new(heap);
-    let mut opened = Vec::new(heap);
-    opened.resize(CONNECTIONS, None)?;
-    let mut transfers = Vec::new(heap);
-    transfers.resize(CONNECTIONS, None)?;
-    let counts = Counts::new(0);
-    let mut log = Log {
-        err,
-        origins,
-        is_quiet,
-        addresses: &mut opened,
-        transfers: &mut transfers,
-        lines: &mut lines,
-        counts,
-        has_failed: false,
-    };
-    run(heap, rt, primary, &mut sockets, &mut log, turns)?;
-    if !log.is_written() {
-        return Ok(FAILED);
-    }
-    Ok(DONE)
-}
-
-/// Tells which versions are shown, listens, and makes so many turns.
-fn serve_primary<R: Net + Clock, I: ZoneIndex, S: ZoneStore, E: Write>(
-    heap: Heap,
-    rt: &R,
-    primary: &mut Primary<I, S>,
-    origins: &[Name],
-    addresses: &[SocketAddr],
-    turns: u64,
-    is_quiet: bool,
-    err: &mut E,
-) -> io::Result<u8>
-    ensures run { HasRun (λ m. IsKept primary.old m) (IsLedTo primary.old primary.new) }
-    ensures ended { IfOk result (λ status. (status ≡ FAILED)
-        ⊎ ((status ≡ DONE)
-        × HasTurned turns
-        (λ told m. IsLogOf (zone_lines origins.now m.zones) is_quiet origins.now addresses.now
-        (E.contents err.old) (E.contents err.new) told)
-        (λ m. IsKept primary.old m) (IsLedTo primary.old primary.new))) }
-{
-    tell_zones(err, primary, origins)?;
-    listen(heap, rt, primary, origins, addresses, turns, is_quiet, err)
-}
-
 /// What a server has besides a primary and its log: the names of its zones, the addresses on which it
-/// listens, how many turns it makes, and whether lines of connections are left out of its log.
+/// listens, how many turns it makes, whether lines of connections are left out of its log, and each how many
+/// seconds counts are told.
 #[derive(Drop)]
 struct Service<'a, R> {
     heap: Heap,
@@ -233,11 +171,86 @@ struct Service<'a, R> {
     addresses: &'a [SocketAddr],
     turns: u64,
     is_quiet: bool,
+    count_every: u64,
+}
+
+/// Listens on the addresses of a service, and makes its turns.
+fn listen<'a, R: Net + Clock, I: ZoneIndex, S: ZoneStore, O: Write, E: Write>(
+    service: &Service<'a, R>,
+    primary: &mut Primary<I, S>,
+    out: &mut O,
+    err: &mut E,
+) -> io::Result<u8>
+    ensures run { HasRun (λ m. IsKept primary.old m) (IsLedTo primary.old primary.new) }
+    ensures ended { IfOk result (λ status. (status ≡ FAILED)
+        ⊎ ((status ≡ DONE)
+        × HasTurned service.now.turns
+        (λ told _. IsLogOf [] service.now.is_quiet service.now.origins.now service.now.addresses.now
+        (E.contents err.old) (E.contents err.new) told)
+        (λ m. IsKept primary.old m) (IsLedTo primary.old primary.new))) }
+{
+    let (heap, rt, origins) = (service.heap, service.rt, service.origins);
+    let mut sockets = match Sockets::bind(heap, rt, service.addresses) {
+        Ok(sockets) => sockets,
+        Err(address) => {
+            tell_unavailable(err, address)?;
+            return Ok(FAILED);
+        }
+    };
+    tell_listening(err, service.addresses)?;
+    let mut lines = Vec::new(heap);
+    let mut opened = Vec::new(heap);
+    opened.resize(CONNECTIONS, None)?;
+    let mut transfers = Vec::new(heap);
+    transfers.resize(CONNECTIONS, None)?;
+    let counts = Counts::new(0);
+    let every = service.count_every;
+    let mut log = Log {
+        err,
+        origins,
+        is_quiet: service.is_quiet,
+        addresses: &mut opened,
+        transfers: &mut transfers,
+        lines: &mut lines,
+        counts,
+        has_failed: false,
+        counting: Counting::new(every != 0),
+    };
+    let mut told = CountLines {
+        out,
+        origins,
+        every,
+        next: every,
+    };
+    run(service, primary, &mut sockets, &mut log, &mut told)?;
+    if !log.is_written() {
+        return Ok(FAILED);
+    }
+    Ok(DONE)
+}
+
+/// Tells which versions are shown, listens, and makes the turns of a service.
+fn serve_primary<R: Net + Clock, I: ZoneIndex, S: ZoneStore, O: Write, E: Write>(
+    service: &Service<'_, R>,
+    primary: &mut Primary<I, S>,
+    out: &mut O,
+    err: &mut E,
+) -> io::Result<u8>
+    ensures run { HasRun (λ m. IsKept primary.old m) (IsLedTo primary.old primary.new) }
+    ensures ended { IfOk result (λ status. (status ≡ FAILED)
+        ⊎ ((status ≡ DONE)
+        × HasTurned service.now.turns
+        (λ told m. IsLogOf (zone_lines service.now.origins.now m.zones) service.now.is_quiet
+        service.now.origins.now service.now.addresses.now (E.contents err.old) (E.contents err.new) told)
+        (λ m. IsKept primary.old m) (IsLedTo primary.old primary.new))) }
+{
+    tell_zones(err, primary, service.origins)?;
+    listen(service, primary, out, err)
 }
 
 /// What can be served so. (A call that names both a store over a device and the memory of every collection
 /// has no proof, so that the service is a type parameter.)
-trait Servable<S, E> {
+trait Servable<S, O, E> {
     /// Some turns were made of it.
     ghost has_run: { Self → Self → Type 0 };
 
@@ -245,13 +258,13 @@ trait Servable<S, E> {
     ghost is_served: { Self → S → E → Self → E → Type 0 };
 
     /// Serves it, and returns the exit status.
-    fn serve_as(&mut self, service: &S, err: &mut E) -> u8
+    fn serve_as(&mut self, service: &S, out: &mut O, err: &mut E) -> u8
         ensures run { has_run self.old self.new }
         ensures ended { (result ≡ FAILED)
             ⊎ ((result ≡ DONE) × is_served self.old service.now err.old self.new err.new) };
 }
 
-impl<R: Net + Clock, I: ZoneIndex, S: ZoneStore, E: Write> Servable<Service<'_, R>, E>
+impl<R: Net + Clock, I: ZoneIndex, S: ZoneStore, O: Write, E: Write> Servable<Service<'_, R>, O, E>
     for Primary<I, S> {
     ghost has_run = { λ primary after. HasRun (λ m. IsKept primary m) (IsLedTo primary after) };
 
@@ -261,28 +274,23 @@ impl<R: Net + Clock, I: ZoneIndex, S: ZoneStore, E: Write> Servable<Service<'_, 
         service.addresses.now (E.contents err) (E.contents err_after) told)
         (λ m. IsKept primary m) (IsLedTo primary after) };
 
-    fn serve_as(&mut self, service: &Service<'_, R>, err: &mut E) -> u8 {
-        serve_primary(
-            service.heap,
-            service.rt,
-            self,
-            service.origins,
-            service.addresses,
-            service.turns,
-            service.is_quiet,
-            err,
-        )
-        .unwrap_or(FAILED)
+    fn serve_as(&mut self, service: &Service<'_, R>, out: &mut O, err: &mut E) -> u8 {
+        serve_primary(service, self, out, err).unwrap_or(FAILED)
     }
 }
 
 /// Serves a primary, and returns the exit status.
-fn serve_as<S, E, P: Servable<S, E>>(primary: &mut P, service: &S, err: &mut E) -> u8
+fn serve_as<S, O, E, P: Servable<S, O, E>>(
+    primary: &mut P,
+    service: &S,
+    out: &mut O,
+    err: &mut E,
+) -> u8
     ensures run { P.has_run primary.old primary.new }
     ensures ended { (result ≡ FAILED)
         ⊎ ((result ≡ DONE) × P.is_served primary.old service.now err.old primary.new err.new) }
 {
-    primary.serve_as(service, err)
+    primary.serve_as(service, out, err)
 }
 
 /// Tells which device is refused, and gives the exit status.
@@ -315,13 +323,14 @@ fn close_primary<D: Sectors + Drop, F: Devices<D>, I: ZoneIndex>(
 }
 
 /// Opens the stores of all zones, serves them and closes their devices. Returns the exit status.
-fn serve_all<D: Sectors + Drop, F: Devices<D>, I: ZoneIndex, R: Net + Clock, E: Write>(
+fn serve_all<D: Sectors + Drop, F: Devices<D>, I: ZoneIndex, R: Net + Clock, O: Write, E: Write>(
     alloc: Global,
     heap: Heap,
     rt: &R,
     devices: &mut F,
     config: &File<'_>,
     options: ServeOptions,
+    out: &mut O,
     err: &mut E,
 ) -> io::Result<u8>
     ensures { Calls (F.calls devices.old) (F.calls devices.new)
@@ -342,8 +351,9 @@ fn serve_all<D: Sectors + Drop, F: Devices<D>, I: ZoneIndex, R: Net + Clock, E: 
                 addresses: &configuration.listen,
                 turns: options.turns,
                 is_quiet: options.is_quiet,
+                count_every: options.count_every,
             };
-            let status = serve_as(&mut primary, &service, err);
+            let status = serve_as(&mut primary, &service, out, err);
             close_primary(devices, &configuration.zones, primary);
             Ok(status)
         }
@@ -358,6 +368,8 @@ pub struct ServeOptions {
     pub turns: u64,
     /// Whether lines of connections are left out of its log.
     pub is_quiet: bool,
+    /// Each how many seconds counts are told; with 0 they are not.
+    pub count_every: u64,
     /// Whether a second line says what can be done about a device that is refused.
     pub explain: bool,
 }
@@ -368,7 +380,7 @@ pub struct ServeOptions {
 /// and then `conn N open ADDRESS`, `conn N closed`, `out of memory` and `device ORIGIN` as they come. The
 /// lines of a turn are written when it ends. Of lines of connections at most 20 are written in a second; when
 /// it is over `N lines left out` is, and `N connections refused` for those that were closed for want of a
-/// slot.
+/// slot. What was counted is told to `out`, if that is wanted: a line for each zone, and then one for the server.
 ///
 /// Faults are reported in one line, the first in this order: the configuration, the devices (of which, if it
 /// is wanted, a second line says what can be done), the addresses (`ADDRESS: Unavailable`). Gives the exit
@@ -376,18 +388,21 @@ pub struct ServeOptions {
 /// memory was refused. It serves only if each device is intact: its first sector is a root of its zone and of
 /// the sizes of its store, and each sector that is read is its own or zeros. The devices are closed as the
 /// last turn left them, or as they came if one of them is refused, but for how often they were opened.
-pub fn serve<D: Sectors + Drop, F: Devices<D>, I: ZoneIndex, R: Net + Clock, E: Write>(
+pub fn serve<D: Sectors + Drop, F: Devices<D>, I: ZoneIndex, R: Net + Clock, O: Write, E: Write>(
     alloc: Global,
     heap: Heap,
     rt: &R,
     devices: &mut F,
     config: &File<'_>,
     options: ServeOptions,
+    out: &mut O,
     err: &mut E,
 ) -> u8
     ensures { Calls (F.calls devices.old) (F.calls devices.new)
         (λ calls. ServingEnds D.Sectors calls config.now options (E.contents err.old) (E.contents err.new)
         result) }
 {
-    serve_all::<D, F, I, R, E>(alloc, heap, rt, devices, config, options, err).unwrap_or(FAILED)
+    serve_all::<D, F, I, R, O, E>(alloc, heap, rt, devices, config, options, out, err).unwrap_or(
+        FAILED,
+    )
 }

@@ -85,4 +85,9 @@ Loads g config files origin false = LoadEnds g config files origin
 
 -- The options of `serve`, by its words.
 abbrev pub options_of : Serving → Bool → ServeOptions
-options_of words explain = record { turns = words.turns; is_quiet = words.quiet; explain = explain }
+options_of words explain = record {
+  turns = words.turns;
+  is_quiet = words.quiet;
+  count_every = words.count_every;
+  explain = explain;
+}

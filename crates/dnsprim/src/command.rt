@@ -26,7 +26,7 @@ pub enum Task<'a> {
     Migrate(&'a str),
     /// `verify CONFIG [ORIGIN] [--every-sector]`
     Verify(Verifying<'a>),
-    /// `serve CONFIG --turns N [--quiet]`
+    /// `serve CONFIG --turns N [--quiet] [--count-every SECONDS]`
     Serve(Serving<'a>),
     /// `fetch ADDRESS:PORT ORIGIN [--since FILE] [--seconds N]`
     Fetch(Fetching<'a>),
@@ -110,6 +110,8 @@ pub struct Serving<'a> {
     pub turns: u64,
     /// Whether the lines of connections are left out of the log.
     pub quiet: bool,
+    /// Each how many seconds counts are printed; with 0 they are not.
+    pub count_every: u64,
 }
 
 /// The words of `fetch`.
@@ -155,6 +157,9 @@ const SERIALS_EXPECTED: &str = "diff: FROM and TO are numbers from 0 to 42949672
 
 /// What is expected of `--seconds`.
 const SECONDS_EXPECTED: &str = "--seconds: a number from 0 to 4294967295 is expected";
+
+/// What is expected of `--count-every`.
+const COUNT_EXPECTED: &str = "--count-every: a number from 1 to 4294967295 is expected";
 
 /// How many seconds `fetch` may take unless it is told another number.
 const FETCH_SECONDS: u64 = 300;
@@ -338,7 +343,14 @@ fn serve_command<'a>(alloc: Global) -> Result<Command<'a>, Error> {
         .long("quiet")
         .action(ArgAction::SetTrue)
         .help("Leaves the lines of connections, updates and transfers out of the log");
-    Ok(command.arg(turns)?.arg(quiet)?)
+    let count_every = Arg::new(alloc, "count-every")
+        .long("count-every")
+        .value_name("SECONDS")
+        .action(ArgAction::Set)
+        .help(
+            "Prints what was counted each so many seconds: a line for each zone, and one for the server",
+        );
+    Ok(command.arg(turns)?.arg(quiet)?.arg(count_every)?)
 }
 
 fn fetch_command<'a>(alloc: Global) -> Result<Command<'a>, Error> {
@@ -473,6 +485,19 @@ fn diff_words<'a>(inner: &ArgMatches<'a>) -> Words<'a> {
     }
 }
 
+/// Each how many seconds the words of `serve` want counts, or 0 without such a word. None if they say no
+/// number from 1 on.
+fn count_every_of(inner: &ArgMatches<'_>) -> Option<u64> {
+    match inner.get_str("count-every") {
+        Some(text) => match number_of(text) {
+            Some(0) => None,
+            Some(seconds) => Some(u64::from(seconds)),
+            None => None,
+        },
+        None => Some(0),
+    }
+}
+
 /// The words of `serve`.
 fn serve_words<'a>(inner: &ArgMatches<'a>) -> Words<'a> {
     let (Some(config), Some(text)) = (inner.get_str("CONFIG"), inner.get_str("turns")) else {
@@ -481,11 +506,14 @@ fn serve_words<'a>(inner: &ArgMatches<'a>) -> Words<'a> {
     let Some(turns) = turns_of(text) else {
         return Words::Wrong(TURNS_EXPECTED);
     };
-    let quiet = inner.get_flag("quiet");
+    let Some(count_every) = count_every_of(inner) else {
+        return Words::Wrong(COUNT_EXPECTED);
+    };
     let serving = Serving {
         config,
         turns,
-        quiet,
+        quiet: inner.get_flag("quiet"),
+        count_every,
     };
     task_words(inner, Task::Serve(serving))
 }

@@ -26,7 +26,7 @@ fn tell_usage(rt: &HostRuntime) -> io::Result<u8> {
 dump CONFIG ORIGIN [--serial M] | diff CONFIG ORIGIN FROM [TO] [--as-update] | \
 history CONFIG ORIGIN [--records] | load CONFIG ORIGIN [--dry-run] | migrate CONFIG | \
 verify CONFIG [ORIGIN] [--every-sector] | \
-serve CONFIG --turns N|unlimited [--quiet] | \
+serve CONFIG --turns N|unlimited [--quiet] [--count-every SECONDS] | \
 fetch ADDRESS:PORT ORIGIN [--since FILE] [--seconds N] [--explain]"
     )?;
     Ok(USAGE)

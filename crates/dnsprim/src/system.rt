@@ -206,8 +206,9 @@ impl Commands for System<'_> {
 
     fn serve(&mut self, words: Serving<'_>, explain: bool) -> io::Result<u8> {
         let rt = self.rt;
-        let mut run = self.run(explain, Disk(rt), (), Lines::new(rt));
-        let status = serve_file::<_, Device, _, _, _>(rt, &mut self.files(), &mut run, words)?;
+        let (out, err) = (Lines::to_output(rt), Lines::to_errors(rt));
+        let mut run = self.run(explain, Disk(rt), out, err);
+        let status = serve_file::<_, Device, _, _, _, _>(rt, &mut self.files(), &mut run, words)?;
         if explain && status == REFUSED {
             self.explainer().configuration(words.config)?;
         }

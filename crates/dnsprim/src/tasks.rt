@@ -278,10 +278,10 @@ pub fn verify_file<N: Inputs, D: Sectors + Drop, F: DevicesToRead<D>, W: Write, 
 }
 
 /// Serves, and returns the exit status.
-pub fn serve_file<N: Inputs, D: Sectors + Drop, F: Devices<D>, R: Net + Clock, E: Write>(
+pub fn serve_file<N: Inputs, D: Sectors + Drop, F: Devices<D>, R: Net + Clock, W: Write, E: Write>(
     rt: &R,
     inputs: &mut N,
-    run: &mut Run<F, (), E>,
+    run: &mut Run<F, W, E>,
     words: Serving<'_>,
 ) -> io::Result<u8>
     ensures { Calls (N.reads inputs.old) (N.reads inputs.new) (λ reads.
@@ -295,15 +295,17 @@ pub fn serve_file<N: Inputs, D: Sectors + Drop, F: Devices<D>, R: Net + Clock, E
     let options = ServeOptions {
         turns: words.turns,
         is_quiet: words.quiet,
+        count_every: words.count_every,
         explain: run.explain,
     };
-    Ok(serve::<D, F, Index, R, E>(
+    Ok(serve::<D, F, Index, R, W, E>(
         run.alloc,
         run.heap,
         rt,
         &mut run.devices,
         &config,
         options,
+        &mut run.out,
         &mut run.err,
     ))
 }

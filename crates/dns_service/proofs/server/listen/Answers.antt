@@ -22,16 +22,16 @@ returns-clause-ended g c =
       refl,
       has_listened (λ x k kept z left. g.met.S.ZoneStore.at_rest x k kept z left) c.in_ok-run.ensures (λ log. log.err.ghost_name) (λ log. log.origins.now) (λ log. log.is_quiet) (λ log. log.has_failed) (λ log. logged (text log.err.now) log.lines.now.items log.counts log.addresses.now.items log.transfers.now.items) (λ old one new h. h)
           (λ old event effects new h. h)
-          c.args.addresses.now (text c.args.err.now) said c.in_ok-tell_listening.ensures
+          c.args.service.now.addresses.now (text c.args.err.now) said c.in_ok-tell_listening.ensures
           (record { none = c.new-lines.ensures.items; fresh = λ i. record { counts = c.new-counts.ensures i; addresses = none_yet c.new-opened.ensures.items c.new-opened.ensures.len c.in_ok-resize.ensures.items i; transfers = none_yet c.new-transfers.ensures.items c.new-transfers.ensures.len c.in_ok-resize-2.ensures.items i } }) (c.is_written.ensures.whole is)
           (subst (λ (lines : List ℕ). Appends said said lines) (sym (c.is_written.ensures.lines is)) (Appends-nil said)) (λ same. ap text (c.err-2-1.given.1 same)),
     )
 
 pub returns-clause-run : goal.returns-clause-run
-returns-clause-run g c = some_run c.args.turns _ (λ m. IsKept c.args.primary.now m) (IsLedTo c.args.primary.now c.run.new.primary) (has_been_turned (λ x k kept z left. g.met.S.ZoneStore.at_rest x k kept z left) (λ _. Unit {0}) c.in_ok-run.ensures (λ turns took. tt))
+returns-clause-run g c = some_run c.args.service.now.turns _ (λ m. IsKept c.args.primary.now m) (IsLedTo c.args.primary.now c.run.new.primary) (has_been_turned (λ x k kept z left. g.met.S.ZoneStore.at_rest x k kept z left) (λ _. Unit {0}) c.in_ok-run.ensures (λ turns took. tt))
 
 pub returns-then-not-is_written-clause-run : goal.returns-then-not-is_written-clause-run
-returns-then-not-is_written-clause-run g c = some_run c.args.turns _ (λ m. IsKept c.args.primary.now m) (IsLedTo c.args.primary.now c.run.new.primary) (has_been_turned (λ x k kept z left. g.met.S.ZoneStore.at_rest x k kept z left) (λ _. Unit {0}) c.in_ok-run.ensures (λ turns took. tt))
+returns-then-not-is_written-clause-run g c = some_run c.args.service.now.turns _ (λ m. IsKept c.args.primary.now m) (IsLedTo c.args.primary.now c.run.new.primary) (has_been_turned (λ x k kept z left. g.met.S.ZoneStore.at_rest x k kept z left) (λ _. Unit {0}) c.in_ok-run.ensures (λ turns took. tt))
 
 pub returns-in_err-tell_unavailable-in-Err-clause-run : goal.returns-in_err-tell_unavailable-in-Err-clause-run
 returns-in_err-tell_unavailable-in-Err-clause-run g c = none_run (λ x k kept z left. g.met.S.ZoneStore.at_rest x k kept z left) _

@@ -7,7 +7,7 @@ use Rattle.dns_service.proofs.server.serve_primary.Goals as goal
 pub returns-clause-ended : goal.returns-clause-ended
 returns-clause-ended g c =
     let text = g.E.Write.contents in
-    after_zones c.listen.result c.args.is_quiet c.args.origins.now c.args.addresses.now c.args.turns (text c.args.err.now) (text c.tell_zones.new.err) (text c.listen.new.err) (λ m. IsKept c.args.primary.now m) (IsLedTo c.args.primary.now c.listen.new.primary)
+    after_zones c.listen.result c.args.service.now.is_quiet c.args.service.now.origins.now c.args.service.now.addresses.now c.args.service.now.turns (text c.args.err.now) (text c.tell_zones.new.err) (text c.listen.new.err) (λ m. IsKept c.args.primary.now m) (IsLedTo c.args.primary.now c.listen.new.primary)
     c.in_ok-tell_zones.ensures c.listen.ensures.ended
 
 pub returns-in_err-tell_zones-clause-run : goal.returns-in_err-tell_zones-clause-run
