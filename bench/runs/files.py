@@ -7,12 +7,15 @@ and `migrate` of devices of format 1 that are encoded here.
 ends with 0 if all do. A run that differs is kept in /tmp/files-SEED with its commands and devices.
 
 Most commands run to their end: then the status, both outputs, each reply, and each octet of each device have to be the model's. In others
-strace kills the program as it begins its n-th write, sync or reply, or has its n-th write or sync fail. After a kill the devices have to be
-what the first writes of the model's leave, in order, and each zone its loaded records after a first part of the accepted updates and loads,
-which holds all that was answered NOERROR, told as loaded, or shown. A transfer that was asked with a serial that was served is also applied
-here, by the rules of RFC 1995 and 5936, and has to come to the version that is shown. It needs strace.
+strace kills the program as it begins its n-th write, sync or reply, or has its n-th write or sync fail; or it only tells what the program
+writes and syncs, and a crash is made of that: each device gets what was written before its last sync up to some moment, and any of its later
+writes. The writes and syncs that strace tells have to be the model's, in order, and no reply may go out before the model's would. After a kill
+the devices have to be what the first of the model's writes leave. After a kill or a crash each zone is its loaded records after a first part
+of the accepted updates and loads, which holds all that was answered NOERROR, told as loaded, or shown. A transfer that was asked with a serial
+that was served is also applied here, by the rules of RFC 1995 and 5936, and has to come to the version that is shown. It needs strace.
 """
 import os
+import re
 import select
 import shutil
 import signal
@@ -30,6 +33,7 @@ from run import Maker, prefix_text, printed
 CALLS = {"write": "pwrite64", "sync": "fdatasync", "reply": "sendto"}
 ADDRESSES = ["127.0.0.1", "127.0.0.2"]
 PATIENCE = 20
+CALL = re.compile(r"^(\w+)\(\d+<[^>]*?([^/>]*)>.*?(?:, (\d+))?\) += (\d+)", re.M)
 
 
 class Differs(Exception):
@@ -46,33 +50,33 @@ def expect(what, came, wanted):
 
 class Log:
     def begin(self, fail=None):
-        self.writes, self.counts, self.fail = [], {"write": 0, "sync": 0}, fail
+        self.events, self.counts, self.fail = [], {"write": 0, "sync": 0, "reply": 0}, fail
 
-    def tick(self, kind):
+    def tick(self, kind, *event):
         self.counts[kind] += 1
         if self.fail == (kind, self.counts[kind]):
             raise model.Failed
+        self.events.append((kind, *event))
 
 
 class File:
     """A device. What was written is there, whether a sync follows or not: a program that is killed takes nothing back."""
 
-    def __init__(self, size, log):
-        self.now, self.log = [bytes(512)] * size, log
+    def __init__(self, name, size, log):
+        self.name, self.now, self.log = name, [bytes(512)] * size, log
 
     def write(self, at, octets):
-        self.log.tick("write")
+        self.log.tick("write", self.name, at, octets)
         self.now[at] = octets
-        self.log.writes.append((self, at, octets))
 
     def sync(self):
-        self.log.tick("sync")
+        self.log.tick("sync", self.name)
 
     def read(self, at):
         return self.now[at]
 
     def copy(self):
-        other = File(0, Log())
+        other = File(self.name, 0, Log())
         other.log.begin()
         other.now = list(self.now)
         return other
@@ -94,7 +98,7 @@ class Zone(model.Zone):
     def __init__(self, number, spec, records, log):
         self.spec, self.apex, self.origin = spec, spec["apex"], spec["origin"]
         self.file, self.path = f"{number}.zone", f"{number}.dev"
-        self.device = File(1 + 2 * (spec["s"] + spec["j"]), log)
+        self.device = File(self.path, 1 + 2 * (spec["s"] + spec["j"]), log)
         self.versions, self.shown, self.acknowledged, self.old = [records], 0, 0, None
 
     def over(self, device):
@@ -218,9 +222,14 @@ class Refused(Exception):
 
 
 class Machine(model.Machine):
-    def __init__(self, zones):
-        self.plan, self.zones = model.Plan(), zones
+    def __init__(self, zones, log):
+        self.plan, self.zones, self.log = model.Plan(), zones, log
         self.begin()
+
+    def say(self, to, octets):
+        if to is not None:
+            self.log.tick("reply")
+            self.out.append((to, octets, self.known()))
 
     def open(self, zone):
         if zone.old:
@@ -231,20 +240,30 @@ class Machine(model.Machine):
             raise Refused(3, f"{zone.path}: Device")
 
     def known(self):
-        """What is durable of each zone as soon as the reply that comes now is seen."""
-        return [(it.shown, it.acknowledged) for it in self.zones]
+        """What is durable as soon as the reply that comes now is seen: after how many events, and of each zone the versions shown and told."""
+        return len(self.log.events), [(it.shown, it.acknowledged) for it in self.zones]
+
+    def learn(self, known):
+        for zone, (shown, acknowledged) in zip(self.zones, known[1]):
+            zone.shown, zone.acknowledged = max(zone.shown, shown), max(zone.acknowledged, acknowledged)
+
+    def forget(self, known):
+        """Nothing is known but this."""
+        for zone in self.zones:
+            zone.shown = zone.acknowledged = 0
+        self.learn(known)
 
     def turn(self, *lines):
-        """What goes out in a turn: the lines, each with what is known by it."""
+        """What goes out in a turn: to whom, the octets, and what is known by it."""
         out = []
         for line in lines:
-            out += [(it, self.known()) for it in self.run(line)]
+            out += self.run(line)
         for number, it in self.connections.items():
             while it["messages"]:
-                out += [(it, self.known()) for it in self.run(f"pump {number}")]
+                out += self.run(f"pump {number}")
         if self.waiting:
-            out += [(it, self.known()) for it in self.run("flush")]
-        return [it for it in out if not it[0].startswith(("device ", "conn "))]
+            out += self.run("flush")
+        return [it for it in out if isinstance(it, tuple)]
 
 
 # A client of transfers, written apart from the model's own answers.
@@ -286,14 +305,23 @@ def followed(apex, held, messages):
     return made
 
 
+def wait_for(server, states):
+    """Waits until a process is twice in a row in one of these states: it sleeps, or it is stopped. One that has ended is as it is."""
+    seen, deadline = 0, time.monotonic() + PATIENCE
+    while seen < 2 and server.poll() is None and time.monotonic() < deadline:
+        time.sleep(0.01)
+        with open(f"/proc/{server.pid}/stat") as it:
+            seen = seen + 1 if it.read().rsplit(") ", 1)[1][0] in states else 0
+
+
 class Runner:
     def __init__(self, program, seed, folder):
         self.program, self.folder, self.maker = program, folder, Maker(seed)
-        self.random, self.log, self.done, self.counts = self.maker.random, Log(), [], {"commands": 0, "kills": 0, "failures": 0, "requests": 0}
+        self.random, self.log, self.done, self.counts = self.maker.random, Log(), [], {"commands": 0, "kills": 0, "crashes": 0, "failures": 0, "requests": 0}
         self.log.begin()
         made = self.maker.specs()
         self.zones = [Zone(number, spec, records, self.log) for number, (spec, records) in enumerate(made)]
-        self.machine = Machine(self.zones)
+        self.machine = Machine(self.zones, self.log)
         for zone in self.zones:
             self.write(zone.file, zone_text(zone.versions[0], zone.apex))
         self.settings()
@@ -324,20 +352,34 @@ class Runner:
 
     # A command: the model's effect, the program's, and the devices after both.
 
-    def interruption(self, calls):
-        """Now and then a call that the program is killed at, or that fails. `calls` counts those that the model made."""
-        kinds = [it for it, count in calls.items() if count]
-        if kinds:
-            kind = self.random.choice(kinds)
-            return kind, self.random.randint(1, calls[kind] + (self.random.random() < 0.1))
-        return None
+    def interruption(self, kinds, share):
+        """Now and then a call that the program is killed at, or the moment of a crash: how many of the model's events come before it."""
+        kinds = [it for it in kinds if self.log.counts[it]]
+        if self.log.fail or not kinds or self.random.random() >= share:
+            return None
+        if self.random.random() < 0.5:
+            return "crash", self.maker.pick((self.before_a_sync(), 3), (self.random.randint(0, len(self.log.events)), 1))
+        kind = self.random.choice(kinds)
+        return kind, self.random.randint(1, self.log.counts[kind])
 
-    def before(self, kill, fail):
-        if kill:
-            return ["strace", "-D", "-f", "-o", "/dev/null", "-e", f"trace={CALLS[kill[0]]}", "-e", f"inject={CALLS[kill[0]]}:signal=SIGKILL:when={kill[1]}"]
-        if fail:
-            return ["strace", "-D", "-f", "-o", "/dev/null", "-e", f"trace={CALLS[fail[0]]}", "-e", f"inject={CALLS[fail[0]]}:error=EIO:when={fail[1]}"]
-        return []
+    def before_a_sync(self):
+        """The moment of a sync: mostly one of several writes, of which a crash may keep any."""
+        moments, pending = [], {}
+        for number, (kind, *rest) in enumerate(self.log.events):
+            if kind == "write":
+                pending[rest[0]] = pending.get(rest[0], 0) + 1
+            elif kind == "sync":
+                moments.append((number, 1 + min(40, 10 * max(0, pending.pop(rest[0], 0) - 1))))
+        return self.maker.pick(*moments)
+
+    def before(self, how):
+        """The command that comes before the program's: strace, where something is to happen to it."""
+        if not how and not self.log.fail:
+            return []
+        words = ["strace", "-D", "-y", "-s", "0", "-o", "trace", "-e", f"trace={','.join(CALLS.values())}"]
+        if self.log.fail:
+            return [*words, "-e", f"inject={CALLS[self.log.fail[0]]}:error=EIO:when={self.log.fail[1]}"]
+        return words if how[0] == "crash" else [*words, "-e", f"inject={CALLS[how[0]]}:signal=SIGKILL:when={how[1]}"]
 
     def fails(self, most):
         if self.random.random() < 0.12:
@@ -345,13 +387,59 @@ class Runner:
             return self.random.choice(["write", "sync"]), self.random.randint(1, most)
         return None
 
-    def command(self, *words, effect, may_fail=True, may_kill=True, most=4):
+    def traced(self, how, is_partly):
+        """Compares the writes and syncs that strace told with the model's: all of them, or the first. No reply goes out before its turn."""
+        if not how and not self.log.fail:
+            return
+        deadline, path = time.monotonic() + PATIENCE, f"{self.folder}/trace"
+        while not re.search(r"^\+\+\+ (exited|killed)", open(path).read(), re.M) and time.monotonic() < deadline:
+            time.sleep(0.01)
+        with open(path) as file:
+            came = [(call, name, int(at or 0)) for call, name, at, _ in CALL.findall(file.read())]
+        wanted = [(CALLS[it[0]], *(it[1:3] if it[0] == "write" else [*it[1:2], 0])) for it in self.log.events]
+        late, place = 0, 0  # replies that go out later than the model's, as by a connection that is written in the next turn
+        for it in came:
+            is_reply = it[0] == CALLS["reply"]
+            while not is_reply and place < len(wanted) and wanted[place][0] == CALLS["reply"]:
+                late, place = late + 1, place + 1
+            there = wanted[place] if place < len(wanted) else None
+            if is_reply and (there is None or there[0] != CALLS["reply"]):
+                late -= 1
+                if late < 0:
+                    raise Differs(f"a reply goes out after {place} of the model's events, before its turn")
+                continue
+            if not is_reply:
+                expect(f"event {place}", (*it[:2], it[2] // 512 if it[0] == CALLS["write"] else 0), there)
+            place += 1
+        if not is_partly and any(it[0] != CALLS["reply"] for it in wanted[place:]):
+            raise Differs(f"after {place} of the model's {len(wanted)} events there were no more writes and syncs")
+
+    def crash(self, begun, moment):
+        """Leaves of each device what a crash at a moment may leave."""
+        for zone, now in zip(self.zones, begun):
+            pending = []
+            for it in self.log.events[:moment]:
+                if it[:2] == ("write", zone.path):
+                    pending.append(it[2:])
+                if it[:2] == ("sync", zone.path):
+                    for at, octets in pending:
+                        now[at] = octets
+                    pending = []
+            share = self.random.choice([0, 0.5, 0.5, 0.5, 0.9, 1])
+            for at, octets in pending:
+                if self.random.random() < share:
+                    now[at] = octets
+            zone.device.now = now
+            with open(f"{self.folder}/{zone.path}", "wb") as it:
+                it.write(b"".join(now))
+
+    def command(self, *words, effect, may_fail=True, may_stop=True, most=4):
         """Runs a command to its end or a kill. `effect` is the model's, and gives what is printed."""
         self.counts["commands"] += 1
-        begun, fail = [list(it.device.now) for it in self.zones], self.fails(most) if may_fail else None
-        old = [it.old for it in self.zones]
-        known = self.machine.known()
-        self.log.begin(fail)
+        begun, old, known = [list(it.device.now) for it in self.zones], [it.old for it in self.zones], self.machine.known()
+        # A device of format 1 may be found before or after a sync.
+        may_fail = may_fail and (words[0] == "migrate" or not any(old))
+        self.log.begin(self.fails(most) if may_fail else None)
         out = []
         try:
             for piece in effect():
@@ -359,22 +447,25 @@ class Runner:
             wanted = (0, "".join(out), "")
         except Refused as it:
             wanted = (it.args[0], "".join(out), it.args[1] + "\n")
-        kill = self.interruption(self.log.counts) if may_kill and not fail and self.random.random() < 0.2 else None
-        self.done.append(f"{' '.join(words)}" + (f" killed at {kill}" if kill else "") + (f" failed at {fail}" if fail else ""))
-        ran = subprocess.run([*self.before(kill, fail), self.program, *words], cwd=self.folder, capture_output=True, text=True, timeout=120)
+        how = self.interruption(["write", "sync"], 0.3) if may_stop else None
+        self.tell(" ".join(words), how)
+        ran = subprocess.run([*self.before(how), self.program, *words], cwd=self.folder, capture_output=True, text=True, timeout=120)
         came = ran.returncode, ran.stdout, ran.stderr
-        is_killed = kill is not None and ran.returncode == -signal.SIGKILL
+        is_killed = how is not None and ran.returncode == -signal.SIGKILL
         if is_killed:
             self.counts["kills"] += 1
             if not wanted[1].startswith(came[1]):
                 raise Differs(f"{words}: printed {came[1]!r} before it was killed")
-            # What a load told is told, but not what it would have.
-            for zone, (shown, acknowledged) in zip(self.zones, known):
-                if not came[1]:
-                    zone.shown, zone.acknowledged = shown, acknowledged
         else:
             expect(" ".join(words), came, wanted)
-        self.adopt(begun, is_killed, old)
+        # What a load told is told, but not what it would have.
+        if is_killed and not came[1] or how and how[0] == "crash" and how[1] < len(self.log.events):
+            self.machine.forget(known)
+        self.traced(how, is_killed)
+        self.adopt(begun, is_killed, old, how)
+
+    def tell(self, text, how):
+        self.done.append(text + (f" {how}" if how else "") + (f" failing at {self.log.fail}" if self.log.fail else ""))
 
     def sectors(self, zone):
         with open(f"{self.folder}/{zone.path}", "rb") as it:
@@ -382,28 +473,36 @@ class Runner:
         expect(f"the length of {zone.path}", len(octets), 512 * len(zone.device.now))
         return [octets[at : at + 512] for at in range(0, len(octets), 512)]
 
-    def adopt(self, begun, is_partly, old):
+    def is_first_part(self, begun, came):
+        """The devices are what the first of the model's writes leave of what they were."""
+        different = {(n, at) for n, it in enumerate(begun) for at in range(len(it)) if it[at] != came[n][at]}
+        places = {it.path: n for n, it in enumerate(self.zones)}
+        for _, name, at, octets in (it for it in self.log.events if it[0] == "write"):
+            if not different:
+                break
+            number = places[name]
+            (different.discard if came[number][at] == octets else different.add)((number, at))
+        if different:
+            raise Differs(f"after a kill the devices are none that the model's writes leave: {sorted(different)[:20]}")
+
+    def adopt(self, begun, is_partly, old, how):
         """The devices are as the model's, or as a first part of its writes leaves them. Then each zone is as its device has it."""
         came = [self.sectors(it) for it in self.zones]
         if is_partly:
-            different = {(n, at) for n, it in enumerate(begun) for at in range(len(it)) if it[at] != came[n][at]}
-            places = {id(it.device): n for n, it in enumerate(self.zones)}
-            for device, at, octets in self.log.writes:
-                if not different:
-                    break
-                number = places[id(device)]
-                (different.discard if came[number][at] == octets else different.add)((number, at))
-            if different:
-                raise Differs(f"after a kill the devices are none that the model's writes leave: {sorted(different)[:20]}")
+            self.is_first_part(begun, came)
         else:
             for zone, sectors in zip(self.zones, came):
                 wrong = [at for at, octets in enumerate(sectors) if octets != zone.device.now[at]]
                 if wrong:
                     at = wrong[0]
                     expect(f"{zone.path}: sectors {wrong[:20]}, the first", sectors[at].hex(), zone.device.now[at].hex())
-        for zone, sectors, it in zip(self.zones, came, old):
+        for zone, sectors in zip(self.zones, came):
             zone.device.now = sectors
-            zone.old = it if sectors[0][:4] == b"DPR1" else None
+        if how and how[0] == "crash" and not is_partly:
+            self.counts["crashes"] += 1
+            self.crash(begun, how[1])
+        for zone, it in zip(self.zones, old):
+            zone.old = it if zone.device.now[0][:4] == b"DPR1" else None
             zone.settle()
 
     # The commands.
@@ -412,12 +511,61 @@ class Runner:
         return self.random.choice(self.zones)
 
     def init(self):
+        """Makes the devices; now and then after an `init` that was killed, or whose n-th write failed."""
+        blank = [list(it.device.now) for it in self.zones]
+
         def effect():
             for zone in self.zones:
-                zone.format()
+                try:
+                    zone.format()
+                except model.Failed:
+                    raise Refused(3, f"{zone.path}: Device")
                 yield f"formatted {zone.origin} serial {serial_of(zone.soa())}\n"
 
-        self.command("init", "config", effect=effect, may_fail=False, may_kill=False)
+        if self.random.random() < 0.5:
+            self.stopped_init(effect, blank)
+        self.command("init", "config", effect=effect, may_fail=False, may_stop=False)
+
+    def stopped_init(self, effect, blank):
+        number = self.random.randint(1, sum(len(it) + 1 for it in blank))
+        self.log.begin(("write", number) if self.random.random() < 0.3 else None)
+        try:
+            list(effect())
+            wanted, how = None, ("write", number)
+        except Refused as it:
+            wanted, how = it.args, None
+        self.tell("init config", how)
+        ran = subprocess.run([*self.before(how), self.program, "init", "config"], cwd=self.folder, capture_output=True, text=True, timeout=120)
+        if wanted:
+            expect("init", (ran.returncode, ran.stderr), (wanted[0], wanted[1] + "\n"))
+            expect("what a failed init left", [it.path for it in self.zones if os.path.exists(f"{self.folder}/{it.path}")], [])
+        else:
+            expect("init", ran.returncode, -signal.SIGKILL)
+            self.begun(blank)
+        for zone, now in zip(self.zones, blank):
+            zone.device.now = list(now)
+
+    def begun(self, blank):
+        """What an `init` that was killed left: no file, an empty one, or a device that is blank or whole. `verify` tells which. It is removed."""
+        came = []
+        for zone, now in zip(self.zones, blank):
+            path = f"{self.folder}/{zone.path}"
+            wanted = 3, "", f"{zone.path}: Device\n"
+            if os.path.exists(path):
+                wanted = 1, "", f"{zone.path}: Geometry\n"
+                if os.path.getsize(path):
+                    now, wanted = self.sectors(zone), (1, "", f"{zone.path}: Blank\n")
+                    if now[0] != bytes(512):
+                        records = len(zone.versions[0])
+                        line = f"{zone.origin} version 0 serial {serial_of(zone.soa())} records {records} entries 0 sectors-left {zone.spec['j']} openings 0\n"
+                        wanted = 0, line, ""
+            came.append(now)
+            ran = subprocess.run([self.program, "verify", "config", zone.origin], cwd=self.folder, capture_output=True, text=True, timeout=120)
+            expect(f"verify {zone.origin} after a killed init", (ran.returncode, ran.stdout, ran.stderr), wanted)
+        self.is_first_part(blank, came)
+        for zone in self.zones:
+            if os.path.exists(f"{self.folder}/{zone.path}"):
+                os.remove(f"{self.folder}/{zone.path}")
 
     def again(self):
         """`init` of what is there changes nothing."""
@@ -426,7 +574,7 @@ class Runner:
             raise Refused(1, f"{self.zones[0].path}: Exists")
             yield
 
-        self.command("init", "config", effect=effect, may_fail=False, may_kill=False)
+        self.command("init", "config", effect=effect, may_fail=False, may_stop=False)
 
     def dump(self):
         zone = self.any_zone()
@@ -503,7 +651,7 @@ class Runner:
             if faults:
                 raise Refused(1, "\n".join(faults))
 
-        self.command("verify", "config", *words, effect=effect, may_fail=False, may_kill=False)
+        self.command("verify", "config", *words, effect=effect, may_fail=False, may_stop=False)
 
     def migrate(self):
         for zone in self.zones:
@@ -584,15 +732,15 @@ class Runner:
 
     # Serving.
 
-    def steps(self):
-        """What is asked, step by step, and what is to come by each socket. The model has done it when this ends."""
+    def steps(self, zone, count):
+        """What is asked, step by step, and what is to come by each socket: of a zone so many small updates in one turn, or where there is no
+        zone anything. The model has done it when this ends."""
         machine, steps = self.machine, []
 
         def step(sends, out, together=False, follows=(), fetch=None):
             wants = {}
-            for line, known in out:
-                word, number, octets = line.split()
-                wants.setdefault((word, number), []).append((bytes.fromhex(octets), known))
+            for to, octets, known in out:
+                wants.setdefault(tuple(to.split()), []).append((octets, known))
             self.counts["requests"] += len(sends)
             steps.append({"sends": sends, "wants": wants, "together": together, "follows": follows, "fetch": fetch})
 
@@ -604,8 +752,11 @@ class Runner:
             machine.run(f"connect {ADDRESSES[int(it[1]) % 2]}")
             octets = self.maker.query()
             step([(it, octets)], machine.turn(ask(it, octets)))
-        for _ in range(self.random.choice([2, 6, 15])):
-            how = self.maker.pick(("burst", 6), ("together", 2), ("transfers", 1.5), ("fetch", 0.5))
+        if zone:
+            sends = [(it, self.small(zone)) for it in [udp[0], *tcp][:count]]
+            step(sends, machine.turn(*(ask(*it) for it in sends)), together=True)
+        for _ in range(0 if zone else self.random.choice([1, 2, 6, 15])):
+            how = self.maker.pick(("burst", 6), ("together", 3), ("transfers", 1.5), ("fetch", 0.5))
             if how == "burst":
                 it = self.random.choice(udp + tcp)
                 octets = [self.maker.request(machine)[:65535] for _ in range(self.random.choice([1, 1, 3, 8]))]
@@ -619,11 +770,10 @@ class Runner:
                 step(sends, machine.turn(*(ask(*it) for it in sends)), together=True)
             elif how == "transfers":
                 zone, it = self.any_zone(), self.random.choice(tcp)
-                versions = sorted({0, zone.shown, *self.random.choices(range(zone.shown + 1), k=8)})
-                for version in [None, *versions]:
+                for version in [None, *range(zone.shown + 1)]:
                     octets = self.asked(zone, version)
                     out = machine.turn(ask(it, octets))
-                    is_given = len(out) > 0 and all(bytes.fromhex(line.split()[2])[3] & 15 == 0 for line, _ in out)
+                    is_given = len(out) > 0 and all(octets[3] & 15 == 0 for _, octets, _ in out)
                     follow = is_given and (version is None or zone.advances(version) < 2**31)
                     held = None if version is None else zone.versions[version]
                     step([(it, octets)], out, follows=[(it, zone.apex, held, zone.versions[zone.shown])] if follow else ())
@@ -633,8 +783,23 @@ class Runner:
                     version = self.maker.pick((None, 2), (self.random.randrange(zone.shown + 1), 3))
                     if version is None or zone.advances(version) < 2**31:
                         file = None if version is None else zone_text(zone.versions[version], zone.apex)
+                        number = machine.run("connect 127.0.0.1")[0].split()[1]
+                        machine.turn(ask(("tcp", number), self.asked(zone, version)))
+                        machine.run(f"close {number}")
                         step([], [], fetch=(zone.origin, file, zone_text(zone.versions[zone.shown], zone.apex)))
         return steps
+
+    def small(self, zone):
+        """An update whose entry takes one sector."""
+        item = (self.maker.name(zone.apex), model.A, IN, 60, self.random.randbytes(4))
+        return self.maker.message(self.random.randrange(65536), 5, (zone.apex, SOA, IN), [[], [item]])
+
+    def lost(self):
+        """Several entries that one sync makes durable, of which a crash keeps some; then one entry in the place of the first."""
+        zone = self.any_zone()
+        self.serve(zone, 4)
+        self.serve(zone, 1)
+        self.dump()
 
     def asked(self, zone, version):
         """The request of one who holds a version, or nothing."""
@@ -644,41 +809,42 @@ class Runner:
         owner, rtype, ttl, data = soa_of(zone.versions[version], zone.apex)
         return self.maker.message(ident, 0, (zone.apex, IXFR, IN), [[], [(owner, rtype, IN, ttl, data)]])
 
-    def serve(self):
+    def serve(self, only=None, count=0):
         self.counts["commands"] += 1
         if self.random.random() < 0.5:
             self.settings()
         self.configure()
-        begun, fail = [list(it.device.now) for it in self.zones], self.fails(25)
-        old = [it.old for it in self.zones]
-        known = self.machine.known()
-        self.log.begin(fail)
+        begun, old, known = [list(it.device.now) for it in self.zones], [it.old for it in self.zones], self.machine.known()
+        self.log.begin(self.fails(25) if not any(old) else None)
         self.machine.begin()
         refused, steps = None, []
         try:
             for zone in self.zones:
                 self.machine.open(zone)
-            steps = self.steps()
+            steps = self.steps(only, count)
         except Refused as it:
             refused = it.args
-        calls = {**self.log.counts, "reply": sum(len(it) for step in steps for it in step["wants"].values())}
-        kill = self.interruption(calls) if not fail and refused is None and self.random.random() < 0.4 else None
-        self.done.append(f"serve {len(steps)} steps" + (f" killed at {kill}" if kill else "") + (f" failed at {fail}" if fail else ""))
-        for zone, (shown, acknowledged) in zip(self.zones, known):
-            zone.shown, zone.acknowledged = shown, acknowledged
-        words = [*self.before(kill, fail), self.program, "serve", "config", "--turns", "unlimited"]
+        how = self.interruption(["write", "sync", "reply"], 0.5) if refused is None and not only else None
+        if count > 1 and refused is None and not self.log.fail:
+            how = "crash", self.before_a_sync()
+        self.tell(f"serve {len(steps)} steps", how)
+        # What is known is what came, and of a crash what came before it.
+        self.machine.forget(known)
+        words = [*self.before(how), self.program, "serve", "config", "--turns", "unlimited"]
         with open(f"{self.folder}/log", "wb") as log:
             server = subprocess.Popen(words, cwd=self.folder, stderr=log)
+        end = self.random.choice([signal.SIGKILL, signal.SIGTERM])
         try:
-            is_partly = self.play(server, steps, refused, kill is not None)
+            is_partly = self.play(server, steps, refused, how)
         finally:
-            if server.poll() is None:
-                server.send_signal(self.random.choice([signal.SIGKILL, signal.SIGTERM]))
+            server.send_signal(end)
             server.wait()
         self.counts["kills"] += is_partly
-        self.adopt(begun, is_partly or refused is not None, old)
+        if refused is None:
+            self.traced(how, is_partly)
+        self.adopt(begun, is_partly or refused is not None, old, how)
 
-    def play(self, server, steps, refused, may_end):
+    def play(self, server, steps, refused, how):
         """Asks what is to be asked. Whether the server was killed meanwhile."""
         deadline = time.monotonic() + PATIENCE
         while True:
@@ -693,7 +859,8 @@ class Runner:
             server.wait(PATIENCE)
             expect("serve", (server.returncode, open(f"{self.folder}/log").read().splitlines()[-1:]), (refused[0], [refused[1]]))
             return False
-        sockets = {}
+        sockets, may_end = {}, how is not None and how[0] != "crash"
+        self.crashes_after = how[1] if how and how[0] == "crash" else len(self.log.events)
         try:
             for place in ADDRESSES if not has_ended else ():
                 it = sockets["udp", place] = socket.socket(socket.AF_INET, socket.SOCK_DGRAM)
@@ -717,8 +884,9 @@ class Runner:
             return self.fetch(server, *step["fetch"], may_end)
         try:
             if step["together"]:
-                time.sleep(0.05)
+                wait_for(server, "S")
                 server.send_signal(signal.SIGSTOP)
+                wait_for(server, "Tt")
             for place, octets in step["sends"]:
                 if place not in sockets:
                     it = sockets[place] = socket.create_connection(("127.0.0.1", self.port), 5, (ADDRESSES[int(place[1]) % 2], 0))
@@ -735,8 +903,8 @@ class Runner:
             came = self.receive(server, sockets.get(place), place[0], len(wanted))
             expect(f"step {number}: {place}: {[it[1].hex() for it in step['sends']][:9]}", [it.hex() for it in came], [it[0].hex() for it in wanted[: len(came)]])
             for _, known in wanted[: len(came)]:
-                for zone, (shown, acknowledged) in zip(self.zones, known):
-                    zone.shown, zone.acknowledged = max(zone.shown, shown), max(zone.acknowledged, acknowledged)
+                if known[0] <= self.crashes_after:
+                    self.machine.learn(known)
             if len(came) < len(wanted):
                 if server.poll() is None:
                     raise Differs(f"step {number}: {place}: {len(came)} of {len(wanted)} replies came")
@@ -796,7 +964,7 @@ class Runner:
     def run(self, length):
         self.init()
         for _ in range(length):
-            kinds = (self.serve, 8), (self.load, 3), (self.dump, 1), (self.dump_at, 1), (self.diff, 1), (self.history, 1), (self.verify, 1.5), (self.migrate, 1), (self.again, 0.2)
+            kinds = (self.serve, 8), (self.load, 3), (self.dump, 1), (self.dump_at, 1), (self.diff, 1), (self.history, 1), (self.verify, 1.5), (self.migrate, 1), (self.lost, 1), (self.again, 0.2)
             self.maker.pick(*kinds)()
 
 
