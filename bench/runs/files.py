@@ -320,6 +320,12 @@ class Runner:
         self.random, self.log, self.done, self.counts = self.maker.random, Log(), [], {"commands": 0, "kills": 0, "crashes": 0, "failures": 0, "requests": 0}
         self.log.begin()
         made = self.maker.specs()
+        for spec, records in made:
+            if self.random.random() < 0.25:  # a zone whose transfer takes several messages
+                spec["s"] = 160
+                for number in range(self.random.randint(20, 60)):
+                    text = b"\xc8" + bytes([97 + number % 26]) * 200
+                    records[(b"bulk-%d" % number, *spec["apex"]), model.TXT, text * self.random.randint(1, 5)] = 300
         self.zones = [Zone(number, spec, records, self.log) for number, (spec, records) in enumerate(made)]
         self.machine = Machine(self.zones, self.log)
         for zone in self.zones:
