@@ -1,6 +1,5 @@
 -- How a server ends, by what its parts told.
-use Rattle.std.proofs.Common.{◌≡◌, ℕ, true, false, zero, suc, inl, inr, List, [], ◌∷◌, ◌++◌, map, Option, Result, Ok, Err, IfOk, refl, sym, ap, ◌∙◌, arith, subst, ◌<◌, ◌≤◌, append-nil, length}
-use Rattle.std.proofs.lemmas.List.{length-map}
+use Rattle.std.proofs.Common.{◌≡◌, ℕ, true, false, zero, suc, inl, inr, List, [], ◌∷◌, ◌++◌, map, Option, Result, Ok, Err, IfOk, refl, arith, subst, length}
 use Rattle.std.specs.Prelude.{◌⊎◌, MatchResult}
 use Rattle.std.specs.Option.{option_copied}
 use Rattle.std.specs.Result.{IsErr, result_unwrap_or}
@@ -28,7 +27,7 @@ use Rattle.dns_versions.specs.Each.{Each2}
 use Rattle.dns_primary.specs.HandOut.{AreSetAs}
 use Rattle.dns_primary.specs.Keeps.{IsKept}
 use Rattle.dns_primary.specs.Machine.{Machine, ZoneState}
-use Rattle.dns_primary.specs.Open.{AreOpened, AreRecoverable, AreRecoverableAnew, LeaveRecovered, count_of, devices_of}
+use Rattle.dns_primary.specs.Open.{AreOpened, AreRecoverable, AreRecoverableAnew, LeaveRecovered, devices_of}
 use Rattle.dns_primary.specs.Runs.{Moment, Took, Stopped, Configured, Run, last_of}
 use Rattle.dns_primary.specs.Step.{Event}
 use Rattle.dns_primary.specs.Stop.{IsMaking, IsStopped, OpensAsRecovered}

@@ -1,5 +1,5 @@
 -- The lines of updates that were answered, and of requests that were refused at once.
-use Rattle.std.specs.Prelude.{ℕ, Bool, true, false, not, ◌==◌, ◌%◌, ◌&&◌, List, [], ◌∷◌, ◌++◌, slice_get}
+use Rattle.std.specs.Prelude.{ℕ, Bool, false, not, ◌==◌, ◌%◌, ◌&&◌, List, [], ◌∷◌, ◌++◌, slice_get}
 use Rattle.std.specs.Prelude.{slice_index, Option, Some, None, codes, decimal, if◌then◌else◌}
 use Rattle.std.specs.declared.net.ip_addr.IpAddr.{IpAddr}
 use Rattle.dns_names.specs.Name.{Labels}

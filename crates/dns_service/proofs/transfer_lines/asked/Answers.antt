@@ -1,4 +1,4 @@
-use Rattle.std.proofs.Common.{◌≡◌, ◌∙◌, ℕ, Some, None, sym, ap}
+use Rattle.std.proofs.Common.{◌≡◌, ◌∙◌, ℕ, sym, ap}
 use Rattle.std.specs.Prelude.{option_map, position}
 use Rattle.dns_names.specs.Name.{Labels, names_eq}
 use Rattle.dns_service.specs.declared.transfer_lines.Transfer.{Transfer}

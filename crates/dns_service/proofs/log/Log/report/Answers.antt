@@ -1,4 +1,3 @@
-use Rattle.std.proofs.Common.{◌≡◌, [], refl}
 use Rattle.dns_primary.specs.Steps.{event_shown}
 use Rattle.dns_service.specs.Log.{observation_said}
 use Rattle.dns_service.proofs.Observed.{appended_said, written_said}
