@@ -753,13 +753,13 @@ class Runner:
         def ask(socket_of, octets):
             return f"{socket_of[0]} {socket_of[1]} {octets.hex()}"
 
-        udp, tcp = [("udp", it) for it in ADDRESSES], [("tcp", str(it)) for it in range(3)]
+        udp, tcp = [("udp", it) for it in ADDRESSES], [("tcp", str(it)) for it in range(4)]
         for it in tcp:
             machine.run(f"connect {ADDRESSES[int(it[1]) % 2]}")
             octets = self.maker.query()
             step([(it, octets)], machine.turn(ask(it, octets)))
         if zone:
-            sends = [(it, self.small(zone)) for it in [udp[0], *tcp][:count]]
+            sends = [(it, self.small(zone)) for it in tcp[:count]]
             step(sends, machine.turn(*(ask(*it) for it in sends)), together=True)
         for _ in range(0 if zone else self.random.choice([1, 2, 6, 15])):
             how = self.maker.pick(("burst", 6), ("together", 3), ("transfers", 1.5), ("fetch", 0.5))
@@ -769,8 +769,8 @@ class Runner:
                 out = [line for one in octets for line in machine.turn(ask(it, one))]
                 step([(it, one) for one in octets], out)
             elif how == "together":
-                sends = []
-                for it in [self.random.choice(udp), *tcp]:
+                sends = [(self.random.choice(udp), self.maker.query())] if self.random.random() < 0.5 else []
+                for it in tcp:
                     if self.random.random() < 0.8:
                         sends.append((it, self.maker.update(machine) if self.random.random() < 0.8 else self.maker.query()))
                 step(sends, machine.turn(*(ask(*it) for it in sends)), together=True)
