@@ -33,6 +33,7 @@ from run import Maker, prefix_text, printed
 CALLS = {"write": "pwrite64", "sync": "fdatasync", "reply": "sendto"}
 ADDRESSES = ["127.0.0.1", "127.0.0.2"]
 PATIENCE = 20
+PIECE = 4096  # what a connection is read by
 CALL = re.compile(r"^(\w+)\(\d+<[^>]*?([^/>]*)>.*?(?:, (\d+))?\) += (\d+)", re.M)
 
 
@@ -264,6 +265,47 @@ class Machine(model.Machine):
         if self.waiting:
             out += self.run("flush")
         return [it for it in out if isinstance(it, tuple)]
+
+    def turns(self, streams):
+        """What goes out in the turns that take the messages of streams, by the numbers of their connections, where all is there before the
+        first. In a turn each connection, in order, writes what is left to write; or else has the next message of its transfer made; or else
+        is read by a piece, if no whole message is left of the last, and has one message taken. Then there is a flush, if an update waits."""
+        out, left = [], {it: False for it in streams}
+        unread, held = {number: b"".join(map(framed, it)) for number, it in streams.items()}, {it: b"" for it in streams}
+
+        def run(line):
+            came = [it for it in self.run(line) if isinstance(it, tuple)]
+            out.extend(came)
+            left.update({int(to.split()[1]): True for to, _, _ in came})
+
+        while any(left.values()) or any(unread.values()) or any(map(whole, held.values())) or any(self.connections[it]["messages"] for it in streams):
+            for number in sorted(streams):
+                if left[number]:
+                    left[number] = False
+                elif self.connections[number]["messages"]:
+                    run(f"pump {number}")
+                else:
+                    if not whole(held[number]):
+                        held[number] += unread[number][:PIECE]
+                        unread[number] = unread[number][PIECE:]
+                    size = whole(held[number])
+                    if size:
+                        octets, held[number] = held[number][2:size], held[number][size:]
+                        run(f"tcp {number} {octets.hex()}")
+            if self.waiting:
+                run("flush")
+        return out
+
+
+def framed(octets):
+    """A message after its length."""
+    return struct.pack(">H", len(octets)) + octets
+
+
+def whole(octets):
+    """How many octets the message at the front takes with its length, or none where it isn't whole."""
+    size = 2 + struct.unpack(">H", octets[:2])[0] if len(octets) >= 2 else 0
+    return size if size <= len(octets) else 0
 
 
 # A client of transfers, written apart from the model's own answers.
@@ -753,14 +795,15 @@ class Runner:
         def ask(socket_of, octets):
             return f"{socket_of[0]} {socket_of[1]} {octets.hex()}"
 
-        udp, tcp = [("udp", it) for it in ADDRESSES], [("tcp", str(it)) for it in range(4)]
+        many = count > 9 or not zone and self.random.random() < 0.1
+        udp, tcp = [("udp", it) for it in ADDRESSES], [("tcp", str(it)) for it in range(40 if many else 5)]
         for it in tcp:
             machine.run(f"connect {ADDRESSES[int(it[1]) % 2]}")
             octets = self.maker.query()
             step([(it, octets)], machine.turn(ask(it, octets)))
         if zone:
-            sends = [(it, self.small(zone)) for it in tcp[:count]]
-            step(sends, machine.turn(*(ask(*it) for it in sends)), together=True)
+            sends = {number: [self.small(zone)] for number in range(count)}
+            step([(tcp[it], sends[it][0]) for it in sends], machine.turns(sends), together=True)
         for _ in range(0 if zone else self.random.choice([1, 2, 6, 15])):
             how = self.maker.pick(("burst", 6), ("together", 3), ("transfers", 1.5), ("fetch", 0.5))
             if how == "burst":
@@ -769,11 +812,16 @@ class Runner:
                 out = [line for one in octets for line in machine.turn(ask(it, one))]
                 step([(it, one) for one in octets], out)
             elif how == "together":
-                sends = [(self.random.choice(udp), self.maker.query())] if self.random.random() < 0.5 else []
-                for it in tcp:
+                # A datagram is answered before the others or among them, and so it is a query, which sees the same in both.
+                first = [(self.random.choice(udp), self.maker.query())] if self.random.random() < 0.5 else []
+                out = [line for one in first for line in machine.turn(ask(*one))]
+                most, sends = self.random.choice([1, 1, 4]), {}
+                for number in range(len(tcp)):
+                    kind = self.maker.pick((lambda: self.maker.update(machine), 8), (lambda: self.maker.request(machine), 3))
                     if self.random.random() < 0.8:
-                        sends.append((it, self.maker.update(machine) if self.random.random() < 0.8 else self.maker.query()))
-                step(sends, machine.turn(*(ask(*it) for it in sends)), together=True)
+                        sends[number] = [kind()[:65535] for _ in range(self.random.randint(1, most))]
+                out += machine.turns(sends)
+                step(first + [(tcp[it], one) for it in sends for one in sends[it]], out, together=True)
             elif how == "transfers":
                 zone, it = self.any_zone(), self.random.choice(tcp)
                 for version in [None, *range(zone.shown + 1)]:
@@ -803,7 +851,7 @@ class Runner:
     def lost(self):
         """Several entries that one sync makes durable, of which a crash keeps some; then one entry in the place of the first."""
         zone = self.any_zone()
-        self.serve(zone, 4)
+        self.serve(zone, self.random.choice([2, 4, 5, 34]))
         self.serve(zone, 1)
         self.dump()
 
@@ -897,7 +945,7 @@ class Runner:
                 if place not in sockets:
                     it = sockets[place] = socket.create_connection(("127.0.0.1", self.port), 5, (ADDRESSES[int(place[1]) % 2], 0))
                     it.setsockopt(socket.IPPROTO_TCP, socket.TCP_NODELAY, 1)
-                sockets[place].sendall(octets if place[0] == "udp" else struct.pack(">H", len(octets)) + octets)
+                sockets[place].sendall(octets if place[0] == "udp" else framed(octets))
         except OSError:
             pass
         finally:
