@@ -15,6 +15,7 @@ of the accepted updates and loads, which holds all that was answered NOERROR, to
 that was served is also applied here, by the rules of RFC 1995 and 5936, and has to come to the version that is shown. It needs strace.
 """
 import os
+import random
 import re
 import select
 import shutil
@@ -34,7 +35,8 @@ CALLS = {"write": "pwrite64", "sync": "fdatasync", "reply": "sendto"}
 ADDRESSES = ["127.0.0.1", "127.0.0.2"]
 PATIENCE = 20
 PIECE = 4096  # what a connection is read by
-CALL = re.compile(r"^(\w+)\(\d+<[^>]*?([^/>]*)>.*?(?:, (\d+))?\) += (\d+)", re.M)
+CALL = re.compile(r"^(pwrite64|fdatasync)\(\d+<[^>]*?([^/>]*)>.*?(?:, (\d+))?\) += \d+")
+REPLY = re.compile(r'^sendto\(\d+<(?:TCP:.*->([\d.]+):(\d+)\]>|UDP:.*htons\((\d+)\), sin_addr=inet_addr\("([\d.]+)").*\) += \d+')
 
 
 class Differs(Exception):
@@ -229,7 +231,7 @@ class Machine(model.Machine):
 
     def say(self, to, octets):
         if to is not None:
-            self.log.tick("reply")
+            self.log.tick("reply", to)
             self.out.append((to, octets, self.known()))
 
     def open(self, zone):
@@ -347,6 +349,19 @@ def followed(apex, held, messages):
     return made
 
 
+def free_port():
+    """A port that is free, of those that the system gives to no one who doesn't name it."""
+    while True:
+        port = random.randrange(10000, 32000)
+        with socket.socket() as stream, socket.socket(socket.AF_INET, socket.SOCK_DGRAM) as datagrams:
+            try:
+                stream.bind(("127.0.0.1", port))
+                datagrams.bind(("127.0.0.1", port))
+                return port
+            except OSError:
+                pass
+
+
 def wait_for(server, states):
     """Waits until a process is twice in a row in one of these states: it sleeps, or it is stopped. One that has ended is as it is."""
     seen, deadline = 0, time.monotonic() + PATIENCE
@@ -361,6 +376,7 @@ class Runner:
         self.program, self.folder, self.maker = program, folder, Maker(seed)
         self.random, self.log, self.done, self.counts = self.maker.random, Log(), [], {"commands": 0, "kills": 0, "crashes": 0, "failures": 0, "requests": 0}
         self.log.begin()
+        self.peers = {}  # the place of each socket that asks, by its transport, address and port
         made = self.maker.specs()
         for spec, records in made:
             if self.random.random() < 0.25:  # a zone whose transfer takes several messages
@@ -368,6 +384,8 @@ class Runner:
                 for number in range(self.random.randint(20, 60)):
                     text = b"\xc8" + bytes([97 + number % 26]) * 200
                     records[(b"bulk-%d" % number, *spec["apex"]), model.TXT, text * self.random.randint(1, 5)] = 300
+            if self.random.random() < 0.2:  # one that may have more than 32 changes
+                spec["j"] = 120
         self.zones = [Zone(number, spec, records, self.log) for number, (spec, records) in enumerate(made)]
         self.machine = Machine(self.zones, self.log)
         for zone in self.zones:
@@ -387,9 +405,7 @@ class Runner:
             zone.spec["update"], zone.spec["transfer"] = (self.random.choices(lists, [9, 4, 2, 0.5])[0] for _ in range(2))
 
     def configure(self):
-        with socket.socket() as it:
-            it.bind(("127.0.0.1", 0))
-            self.port = it.getsockname()[1]
+        self.port = free_port()
         text = f'listen = "127.0.0.1:{self.port}"\n'
         for zone in self.zones:
             text += f'[[zone]]\norigin = "{zone.origin}"\nfile = "{zone.file}"\ndevice = "{zone.path}"\n'
@@ -424,7 +440,7 @@ class Runner:
         """The command that comes before the program's: strace, where something is to happen to it."""
         if not how and not self.log.fail:
             return []
-        words = ["strace", "-D", "-y", "-s", "0", "-o", "trace", "-e", f"trace={','.join(CALLS.values())}"]
+        words = ["strace", "-D", "-yy", "-s", "0", "-o", "trace", "-e", f"trace={','.join(CALLS.values())}"]
         if self.log.fail:
             return [*words, "-e", f"inject={CALLS[self.log.fail[0]]}:error=EIO:when={self.log.fail[1]}"]
         return words if how[0] == "crash" else [*words, "-e", f"inject={CALLS[how[0]]}:signal=SIGKILL:when={how[1]}"]
@@ -442,25 +458,35 @@ class Runner:
         deadline, path = time.monotonic() + PATIENCE, f"{self.folder}/trace"
         while not re.search(r"^\+\+\+ (exited|killed)", open(path).read(), re.M) and time.monotonic() < deadline:
             time.sleep(0.01)
+        wanted = [(CALLS[it[0]], *(it[1:3] if it[0] == "write" else [it[1], 0])) for it in self.log.events if it[0] != "reply"]
+        # To each peer: how many writes and syncs come before each reply at least. A connection is written in a later turn, and so may be later.
+        before, place, sent = {}, 0, {}
+        for kind, *rest in self.log.events:
+            if kind == "reply":
+                to = tuple(rest[0].split())
+                before.setdefault(to if to in self.peers.values() else None, []).append(place)
+            else:
+                place += 1
+        place = 0
         with open(path) as file:
-            came = [(call, name, int(at or 0)) for call, name, at, _ in CALL.findall(file.read())]
-        wanted = [(CALLS[it[0]], *(it[1:3] if it[0] == "write" else [*it[1:2], 0])) for it in self.log.events]
-        late, place = 0, 0  # replies that go out later than the model's, as by a connection that is written in the next turn
-        for it in came:
-            is_reply = it[0] == CALLS["reply"]
-            while not is_reply and place < len(wanted) and wanted[place][0] == CALLS["reply"]:
-                late, place = late + 1, place + 1
-            there = wanted[place] if place < len(wanted) else None
-            if is_reply and (there is None or there[0] != CALLS["reply"]):
-                late -= 1
-                if late < 0:
-                    raise Differs(f"a reply goes out after {place} of the model's events, before its turn")
-                continue
-            if not is_reply:
-                expect(f"event {place}", (*it[:2], it[2] // 512 if it[0] == CALLS["write"] else 0), there)
-            place += 1
-        if not is_partly and any(it[0] != CALLS["reply"] for it in wanted[place:]):
-            raise Differs(f"after {place} of the model's {len(wanted)} events there were no more writes and syncs")
+            for line in file:
+                call, reply = CALL.match(line), REPLY.match(line)
+                if call:
+                    it = call[1], call[2], int(call[3]) // 512 if call[1] == CALLS["write"] else 0
+                    expect(f"event {place}", it, wanted[place] if place < len(wanted) else None)
+                    place += 1
+                if reply:
+                    to = self.peers.get(("tcp", reply[1], int(reply[2])) if reply[1] else ("udp", reply[4], int(reply[3])))
+                    number = sent[to] = sent.get(to, 0) + 1
+                    if number > len(before.get(to, [])):
+                        raise Differs(f"reply {number} to {to} is none of the model's")
+                    if before[to][number - 1] > place:
+                        raise Differs(f"reply {number} to {to} goes out after {place} writes and syncs, not after {before[to][number - 1]}")
+        # Of the last reply strace may not have told, as the program was killed after it.
+        if not is_partly and sum(sent.values()) < sum(map(len, before.values())) - 1:
+            raise Differs(f"of the model's replies there are {sum(sent.values())} of {sum(map(len, before.values()))}")
+        if not is_partly and place < len(wanted):
+            raise Differs(f"after {place} of the model's {len(wanted)} writes and syncs there were no more")
 
     def crash(self, begun, moment):
         """Leaves of each device what a crash at a moment may leave."""
@@ -796,7 +822,7 @@ class Runner:
             return f"{socket_of[0]} {socket_of[1]} {octets.hex()}"
 
         many = count > 9 or not zone and self.random.random() < 0.1
-        udp, tcp = [("udp", it) for it in ADDRESSES], [("tcp", str(it)) for it in range(40 if many else 5)]
+        udp, tcp = [("udp", it) for it in ADDRESSES], [("tcp", str(it)) for it in range(44 if many else 5)]
         for it in tcp:
             machine.run(f"connect {ADDRESSES[int(it[1]) % 2]}")
             octets = self.maker.query()
@@ -815,10 +841,10 @@ class Runner:
                 # A datagram is answered before the others or among them, and so it is a query, which sees the same in both.
                 first = [(self.random.choice(udp), self.maker.query())] if self.random.random() < 0.5 else []
                 out = [line for one in first for line in machine.turn(ask(*one))]
-                most, sends = self.random.choice([1, 1, 4]), {}
+                most, share, sends = self.random.choice([1, 1, 4]), self.random.choice([0.8, 1]), {}
                 for number in range(len(tcp)):
                     kind = self.maker.pick((lambda: self.maker.update(machine), 8), (lambda: self.maker.request(machine), 3))
-                    if self.random.random() < 0.8:
+                    if self.random.random() < share:
                         sends[number] = [kind()[:65535] for _ in range(self.random.randint(1, most))]
                 out += machine.turns(sends)
                 step(first + [(tcp[it], one) for it in sends for one in sends[it]], out, together=True)
@@ -851,7 +877,7 @@ class Runner:
     def lost(self):
         """Several entries that one sync makes durable, of which a crash keeps some; then one entry in the place of the first."""
         zone = self.any_zone()
-        self.serve(zone, self.random.choice([2, 4, 5, 34]))
+        self.serve(zone, self.random.choice([2, 4, 5, 40] if zone.spec["j"] < 80 else [4, 40]))
         self.serve(zone, 1)
         self.dump()
 
@@ -900,6 +926,7 @@ class Runner:
 
     def play(self, server, steps, refused, how):
         """Asks what is to be asked. Whether the server was killed meanwhile."""
+        self.peers = {}
         deadline = time.monotonic() + PATIENCE
         while True:
             text = open(f"{self.folder}/log").read()
@@ -920,6 +947,7 @@ class Runner:
                 it = sockets["udp", place] = socket.socket(socket.AF_INET, socket.SOCK_DGRAM)
                 it.bind((place, 0))
                 it.connect(("127.0.0.1", self.port))
+                self.peers["udp", *it.getsockname()] = "udp", place
             for number, step in enumerate(steps):
                 if not has_ended:
                     has_ended = self.step(server, sockets, step, number, may_end)
@@ -945,6 +973,7 @@ class Runner:
                 if place not in sockets:
                     it = sockets[place] = socket.create_connection(("127.0.0.1", self.port), 5, (ADDRESSES[int(place[1]) % 2], 0))
                     it.setsockopt(socket.IPPROTO_TCP, socket.TCP_NODELAY, 1)
+                    self.peers["tcp", *it.getsockname()] = place
                 sockets[place].sendall(octets if place[0] == "udp" else framed(octets))
         except OSError:
             pass
