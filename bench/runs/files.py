@@ -6,13 +6,19 @@ and `migrate` of devices of format 1 that are encoded here.
 `files.py PROGRAM FIRST COUNT` runs the seeds FIRST to FIRST + COUNT - 1. It prints what differs in a run, and at the end how many agree; it
 ends with 0 if all do. A run that differs is kept in /tmp/files-SEED with its commands and devices.
 
+Which updates share a flush depends on what the server reads in one turn, and so on time. So the messages of a step go to one socket, of which a
+turn takes one; or the server is stopped until all have come on up to 44 connections, several on some, and then each turn takes one of each. The
+model makes the same turns. So up to 32 updates share a flush, a 33rd has one before it, and checkpoints come among them. Updates by UDP share
+none.
+
 Most commands run to their end: then the status, both outputs, each reply, and each octet of each device have to be the model's. In others
 strace kills the program as it begins its n-th write, sync or reply, or has its n-th write or sync fail; or it only tells what the program
 writes and syncs, and a crash is made of that: each device gets what was written before its last sync up to some moment, and any of its later
-writes. The writes and syncs that strace tells have to be the model's, in order, and no reply may go out before the model's would. After a kill
-the devices have to be what the first of the model's writes leave. After a kill or a crash each zone is its loaded records after a first part
-of the accepted updates and loads, which holds all that was answered NOERROR, told as loaded, or shown. A transfer that was asked with a serial
-that was served is also applied here, by the rules of RFC 1995 and 5936, and has to come to the version that is shown. It needs strace.
+writes. The writes and syncs that strace tells have to be the model's, in order, and those that come before a reply in the model have to come
+before it. After a kill the devices have to be what the first of the model's writes leave. After a kill or a crash each zone is its loaded
+records after a first part of the accepted updates and loads, which holds all that was answered NOERROR, told as loaded, or shown. A transfer
+that was asked with a serial that was served is also applied here, by the rules of RFC 1995 and 5936, and has to come to the version that is
+shown. It needs strace, and several may run at once.
 """
 import os
 import random
@@ -102,7 +108,7 @@ class Zone(model.Zone):
         self.spec, self.apex, self.origin = spec, spec["apex"], spec["origin"]
         self.file, self.path = f"{number}.zone", f"{number}.dev"
         self.device = File(self.path, 1 + 2 * (spec["s"] + spec["j"]), log)
-        self.versions, self.shown, self.acknowledged, self.old = [records], 0, 0, None
+        self.versions, self.shown, self.acknowledged, self.old, self.lacks_ns = [records], 0, 0, None, False
 
     def over(self, device):
         return model.Store(device, self.apex, self.spec["s"], self.spec["j"])
@@ -452,7 +458,8 @@ class Runner:
         return None
 
     def traced(self, how, is_partly):
-        """Compares the writes and syncs that strace told with the model's: all of them, or the first. No reply goes out before its turn."""
+        """Compares the writes and syncs that strace told with the model's: all of them, or the first. Before each reply come those that come
+        before it in the model."""
         if not how and not self.log.fail:
             return
         deadline, path = time.monotonic() + PATIENCE, f"{self.folder}/trace"
@@ -642,9 +649,12 @@ class Runner:
                 os.remove(f"{self.folder}/{zone.path}")
 
     def again(self):
-        """`init` of what is there changes nothing."""
+        """`init` of what is there changes nothing. A master file is refused first, as that of a load was."""
 
         def effect():
+            for zone in self.zones:
+                if zone.lacks_ns:
+                    raise Refused(1, f"{zone.file}: NoNs")
             raise Refused(1, f"{self.zones[0].path}: Exists")
             yield
 
@@ -774,6 +784,7 @@ class Runner:
         if how == "no NS":
             records = {it: ttl for it, ttl in records.items() if it[:2] != (apex, NS)}
         self.write(zone.file, zone_text(records, apex))
+        zone.lacks_ns = how == "no NS"
         is_dry = self.random.random() < 0.3
 
         def effect():
