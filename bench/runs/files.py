@@ -59,11 +59,12 @@ def expect(what, came, wanted):
 
 class Log:
     def begin(self, fail=None):
-        self.events, self.counts, self.fail = [], {"write": 0, "sync": 0, "reply": 0}, fail
+        self.events, self.counts, self.fail, self.has_failed = [], {"write": 0, "sync": 0, "reply": 0}, fail, False
 
     def tick(self, kind, *event):
         self.counts[kind] += 1
         if self.fail == (kind, self.counts[kind]):
+            self.has_failed = True
             raise model.Failed
         self.events.append((kind, *event))
 
@@ -453,7 +454,6 @@ class Runner:
 
     def fails(self, most):
         if self.random.random() < 0.12:
-            self.counts["failures"] += 1
             return self.random.choice(["write", "sync"]), self.random.randint(1, most)
         return None
 
@@ -546,6 +546,7 @@ class Runner:
         self.adopt(begun, is_killed, old, how)
 
     def tell(self, text, how):
+        self.counts["failures"] += self.log.has_failed
         self.done.append(text + (f" {how}" if how else "") + (f" failing at {self.log.fail}" if self.log.fail else ""))
 
     def sectors(self, zone):
