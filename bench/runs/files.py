@@ -6,15 +6,22 @@ and `migrate` of devices of format 1 that are encoded here.
 `files.py PROGRAM FIRST COUNT` runs the seeds FIRST to FIRST + COUNT - 1. It prints what differs in a run, and at the end how many agree; it
 ends with 0 if all do. A run that differs is kept in /tmp/files-SEED with its commands and devices.
 
+Which updates share a flush depends on what the server reads in one turn, and so on time. So the messages of a step go to one socket, of which a
+turn takes one; or the server is stopped until all have come on up to 44 connections, several on some, and then each turn takes one of each. The
+model makes the same turns. So up to 32 updates share a flush, a 33rd has one before it, and checkpoints come among them. Updates by UDP share
+none.
+
 Most commands run to their end: then the status, both outputs, each reply, and each octet of each device have to be the model's. In others
 strace kills the program as it begins its n-th write, sync or reply, or has its n-th write or sync fail; or it only tells what the program
 writes and syncs, and a crash is made of that: each device gets what was written before its last sync up to some moment, and any of its later
-writes. The writes and syncs that strace tells have to be the model's, in order, and no reply may go out before the model's would. After a kill
-the devices have to be what the first of the model's writes leave. After a kill or a crash each zone is its loaded records after a first part
-of the accepted updates and loads, which holds all that was answered NOERROR, told as loaded, or shown. A transfer that was asked with a serial
-that was served is also applied here, by the rules of RFC 1995 and 5936, and has to come to the version that is shown. It needs strace.
+writes. The writes and syncs that strace tells have to be the model's, in order, and those that come before a reply in the model have to come
+before it. After a kill the devices have to be what the first of the model's writes leave. After a kill or a crash each zone is its loaded
+records after a first part of the accepted updates and loads, which holds all that was answered NOERROR, told as loaded, or shown. A transfer
+that was asked with a serial that was served is also applied here, by the rules of RFC 1995 and 5936, and has to come to the version that is
+shown. It needs strace, and several may run at once.
 """
 import os
+import random
 import re
 import select
 import shutil
@@ -33,7 +40,9 @@ from run import Maker, prefix_text, printed
 CALLS = {"write": "pwrite64", "sync": "fdatasync", "reply": "sendto"}
 ADDRESSES = ["127.0.0.1", "127.0.0.2"]
 PATIENCE = 20
-CALL = re.compile(r"^(\w+)\(\d+<[^>]*?([^/>]*)>.*?(?:, (\d+))?\) += (\d+)", re.M)
+PIECE = 4096  # what a connection is read by
+CALL = re.compile(r"^(pwrite64|fdatasync)\(\d+<[^>]*?([^/>]*)>.*?(?:, (\d+))?\) += \d+")
+REPLY = re.compile(r'^sendto\(\d+<(?:TCP:.*->([\d.]+):(\d+)\]>|UDP:.*htons\((\d+)\), sin_addr=inet_addr\("([\d.]+)").*\) += \d+')
 
 
 class Differs(Exception):
@@ -50,11 +59,12 @@ def expect(what, came, wanted):
 
 class Log:
     def begin(self, fail=None):
-        self.events, self.counts, self.fail = [], {"write": 0, "sync": 0, "reply": 0}, fail
+        self.events, self.counts, self.fail, self.has_failed = [], {"write": 0, "sync": 0, "reply": 0}, fail, False
 
     def tick(self, kind, *event):
         self.counts[kind] += 1
         if self.fail == (kind, self.counts[kind]):
+            self.has_failed = True
             raise model.Failed
         self.events.append((kind, *event))
 
@@ -99,7 +109,7 @@ class Zone(model.Zone):
         self.spec, self.apex, self.origin = spec, spec["apex"], spec["origin"]
         self.file, self.path = f"{number}.zone", f"{number}.dev"
         self.device = File(self.path, 1 + 2 * (spec["s"] + spec["j"]), log)
-        self.versions, self.shown, self.acknowledged, self.old = [records], 0, 0, None
+        self.versions, self.shown, self.acknowledged, self.old, self.lacks_ns = [records], 0, 0, None, False
 
     def over(self, device):
         return model.Store(device, self.apex, self.spec["s"], self.spec["j"])
@@ -228,7 +238,7 @@ class Machine(model.Machine):
 
     def say(self, to, octets):
         if to is not None:
-            self.log.tick("reply")
+            self.log.tick("reply", to)
             self.out.append((to, octets, self.known()))
 
     def open(self, zone):
@@ -264,6 +274,47 @@ class Machine(model.Machine):
         if self.waiting:
             out += self.run("flush")
         return [it for it in out if isinstance(it, tuple)]
+
+    def turns(self, streams):
+        """What goes out in the turns that take the messages of streams, by the numbers of their connections, where all is there before the
+        first. In a turn each connection, in order, writes what is left to write; or else has the next message of its transfer made; or else
+        is read by a piece, if no whole message is left of the last, and has one message taken. Then there is a flush, if an update waits."""
+        out, left = [], {it: False for it in streams}
+        unread, held = {number: b"".join(map(framed, it)) for number, it in streams.items()}, {it: b"" for it in streams}
+
+        def run(line):
+            came = [it for it in self.run(line) if isinstance(it, tuple)]
+            out.extend(came)
+            left.update({int(to.split()[1]): True for to, _, _ in came})
+
+        while any(left.values()) or any(unread.values()) or any(map(whole, held.values())) or any(self.connections[it]["messages"] for it in streams):
+            for number in sorted(streams):
+                if left[number]:
+                    left[number] = False
+                elif self.connections[number]["messages"]:
+                    run(f"pump {number}")
+                else:
+                    if not whole(held[number]):
+                        held[number] += unread[number][:PIECE]
+                        unread[number] = unread[number][PIECE:]
+                    size = whole(held[number])
+                    if size:
+                        octets, held[number] = held[number][2:size], held[number][size:]
+                        run(f"tcp {number} {octets.hex()}")
+            if self.waiting:
+                run("flush")
+        return out
+
+
+def framed(octets):
+    """A message after its length."""
+    return struct.pack(">H", len(octets)) + octets
+
+
+def whole(octets):
+    """How many octets the message at the front takes with its length, or none where it isn't whole."""
+    size = 2 + struct.unpack(">H", octets[:2])[0] if len(octets) >= 2 else 0
+    return size if size <= len(octets) else 0
 
 
 # A client of transfers, written apart from the model's own answers.
@@ -305,6 +356,19 @@ def followed(apex, held, messages):
     return made
 
 
+def free_port():
+    """A port that is free, of those that the system gives to no one who doesn't name it."""
+    while True:
+        port = random.randrange(10000, 32000)
+        with socket.socket() as stream, socket.socket(socket.AF_INET, socket.SOCK_DGRAM) as datagrams:
+            try:
+                stream.bind(("127.0.0.1", port))
+                datagrams.bind(("127.0.0.1", port))
+                return port
+            except OSError:
+                pass
+
+
 def wait_for(server, states):
     """Waits until a process is twice in a row in one of these states: it sleeps, or it is stopped. One that has ended is as it is."""
     seen, deadline = 0, time.monotonic() + PATIENCE
@@ -319,6 +383,7 @@ class Runner:
         self.program, self.folder, self.maker = program, folder, Maker(seed)
         self.random, self.log, self.done, self.counts = self.maker.random, Log(), [], {"commands": 0, "kills": 0, "crashes": 0, "failures": 0, "requests": 0}
         self.log.begin()
+        self.peers = {}  # the place of each socket that asks, by its transport, address and port
         made = self.maker.specs()
         for spec, records in made:
             if self.random.random() < 0.25:  # a zone whose transfer takes several messages
@@ -326,6 +391,8 @@ class Runner:
                 for number in range(self.random.randint(20, 60)):
                     text = b"\xc8" + bytes([97 + number % 26]) * 200
                     records[(b"bulk-%d" % number, *spec["apex"]), model.TXT, text * self.random.randint(1, 5)] = 300
+            if self.random.random() < 0.2:  # one that may have more than 32 changes
+                spec["j"] = 120
         self.zones = [Zone(number, spec, records, self.log) for number, (spec, records) in enumerate(made)]
         self.machine = Machine(self.zones, self.log)
         for zone in self.zones:
@@ -345,9 +412,7 @@ class Runner:
             zone.spec["update"], zone.spec["transfer"] = (self.random.choices(lists, [9, 4, 2, 0.5])[0] for _ in range(2))
 
     def configure(self):
-        with socket.socket() as it:
-            it.bind(("127.0.0.1", 0))
-            self.port = it.getsockname()[1]
+        self.port = free_port()
         text = f'listen = "127.0.0.1:{self.port}"\n'
         for zone in self.zones:
             text += f'[[zone]]\norigin = "{zone.origin}"\nfile = "{zone.file}"\ndevice = "{zone.path}"\n'
@@ -382,43 +447,53 @@ class Runner:
         """The command that comes before the program's: strace, where something is to happen to it."""
         if not how and not self.log.fail:
             return []
-        words = ["strace", "-D", "-y", "-s", "0", "-o", "trace", "-e", f"trace={','.join(CALLS.values())}"]
+        words = ["strace", "-D", "-yy", "-s", "0", "-o", "trace", "-e", f"trace={','.join(CALLS.values())}"]
         if self.log.fail:
             return [*words, "-e", f"inject={CALLS[self.log.fail[0]]}:error=EIO:when={self.log.fail[1]}"]
         return words if how[0] == "crash" else [*words, "-e", f"inject={CALLS[how[0]]}:signal=SIGKILL:when={how[1]}"]
 
     def fails(self, most):
         if self.random.random() < 0.12:
-            self.counts["failures"] += 1
             return self.random.choice(["write", "sync"]), self.random.randint(1, most)
         return None
 
     def traced(self, how, is_partly):
-        """Compares the writes and syncs that strace told with the model's: all of them, or the first. No reply goes out before its turn."""
+        """Compares the writes and syncs that strace told with the model's: all of them, or the first. Before each reply come those that come
+        before it in the model."""
         if not how and not self.log.fail:
             return
         deadline, path = time.monotonic() + PATIENCE, f"{self.folder}/trace"
         while not re.search(r"^\+\+\+ (exited|killed)", open(path).read(), re.M) and time.monotonic() < deadline:
             time.sleep(0.01)
+        wanted = [(CALLS[it[0]], *(it[1:3] if it[0] == "write" else [it[1], 0])) for it in self.log.events if it[0] != "reply"]
+        # To each peer: how many writes and syncs come before each reply at least. A connection is written in a later turn, and so may be later.
+        before, place, sent = {}, 0, {}
+        for kind, *rest in self.log.events:
+            if kind == "reply":
+                to = tuple(rest[0].split())
+                before.setdefault(to if to in self.peers.values() else None, []).append(place)
+            else:
+                place += 1
+        place = 0
         with open(path) as file:
-            came = [(call, name, int(at or 0)) for call, name, at, _ in CALL.findall(file.read())]
-        wanted = [(CALLS[it[0]], *(it[1:3] if it[0] == "write" else [*it[1:2], 0])) for it in self.log.events]
-        late, place = 0, 0  # replies that go out later than the model's, as by a connection that is written in the next turn
-        for it in came:
-            is_reply = it[0] == CALLS["reply"]
-            while not is_reply and place < len(wanted) and wanted[place][0] == CALLS["reply"]:
-                late, place = late + 1, place + 1
-            there = wanted[place] if place < len(wanted) else None
-            if is_reply and (there is None or there[0] != CALLS["reply"]):
-                late -= 1
-                if late < 0:
-                    raise Differs(f"a reply goes out after {place} of the model's events, before its turn")
-                continue
-            if not is_reply:
-                expect(f"event {place}", (*it[:2], it[2] // 512 if it[0] == CALLS["write"] else 0), there)
-            place += 1
-        if not is_partly and any(it[0] != CALLS["reply"] for it in wanted[place:]):
-            raise Differs(f"after {place} of the model's {len(wanted)} events there were no more writes and syncs")
+            for line in file:
+                call, reply = CALL.match(line), REPLY.match(line)
+                if call:
+                    it = call[1], call[2], int(call[3]) // 512 if call[1] == CALLS["write"] else 0
+                    expect(f"event {place}", it, wanted[place] if place < len(wanted) else None)
+                    place += 1
+                if reply:
+                    to = self.peers.get(("tcp", reply[1], int(reply[2])) if reply[1] else ("udp", reply[4], int(reply[3])))
+                    number = sent[to] = sent.get(to, 0) + 1
+                    if number > len(before.get(to, [])):
+                        raise Differs(f"reply {number} to {to} is none of the model's")
+                    if before[to][number - 1] > place:
+                        raise Differs(f"reply {number} to {to} goes out after {place} writes and syncs, not after {before[to][number - 1]}")
+        # Of the last reply strace may not have told, as the program was killed after it.
+        if not is_partly and sum(sent.values()) < sum(map(len, before.values())) - 1:
+            raise Differs(f"of the model's replies there are {sum(sent.values())} of {sum(map(len, before.values()))}")
+        if not is_partly and place < len(wanted):
+            raise Differs(f"after {place} of the model's {len(wanted)} writes and syncs there were no more")
 
     def crash(self, begun, moment):
         """Leaves of each device what a crash at a moment may leave."""
@@ -471,6 +546,7 @@ class Runner:
         self.adopt(begun, is_killed, old, how)
 
     def tell(self, text, how):
+        self.counts["failures"] += self.log.has_failed
         self.done.append(text + (f" {how}" if how else "") + (f" failing at {self.log.fail}" if self.log.fail else ""))
 
     def sectors(self, zone):
@@ -574,9 +650,12 @@ class Runner:
                 os.remove(f"{self.folder}/{zone.path}")
 
     def again(self):
-        """`init` of what is there changes nothing."""
+        """`init` of what is there changes nothing. A master file is refused first, as that of a load was."""
 
         def effect():
+            for zone in self.zones:
+                if zone.lacks_ns:
+                    raise Refused(1, f"{zone.file}: NoNs")
             raise Refused(1, f"{self.zones[0].path}: Exists")
             yield
 
@@ -706,6 +785,7 @@ class Runner:
         if how == "no NS":
             records = {it: ttl for it, ttl in records.items() if it[:2] != (apex, NS)}
         self.write(zone.file, zone_text(records, apex))
+        zone.lacks_ns = how == "no NS"
         is_dry = self.random.random() < 0.3
 
         def effect():
@@ -753,14 +833,15 @@ class Runner:
         def ask(socket_of, octets):
             return f"{socket_of[0]} {socket_of[1]} {octets.hex()}"
 
-        udp, tcp = [("udp", it) for it in ADDRESSES], [("tcp", str(it)) for it in range(3)]
+        many = count > 9 or not zone and self.random.random() < 0.1
+        udp, tcp = [("udp", it) for it in ADDRESSES], [("tcp", str(it)) for it in range(44 if many else 5)]
         for it in tcp:
             machine.run(f"connect {ADDRESSES[int(it[1]) % 2]}")
             octets = self.maker.query()
             step([(it, octets)], machine.turn(ask(it, octets)))
         if zone:
-            sends = [(it, self.small(zone)) for it in [udp[0], *tcp][:count]]
-            step(sends, machine.turn(*(ask(*it) for it in sends)), together=True)
+            sends = {number: [self.small(zone)] for number in range(count)}
+            step([(tcp[it], sends[it][0]) for it in sends], machine.turns(sends), together=True)
         for _ in range(0 if zone else self.random.choice([1, 2, 6, 15])):
             how = self.maker.pick(("burst", 6), ("together", 3), ("transfers", 1.5), ("fetch", 0.5))
             if how == "burst":
@@ -769,11 +850,16 @@ class Runner:
                 out = [line for one in octets for line in machine.turn(ask(it, one))]
                 step([(it, one) for one in octets], out)
             elif how == "together":
-                sends = []
-                for it in [self.random.choice(udp), *tcp]:
-                    if self.random.random() < 0.8:
-                        sends.append((it, self.maker.update(machine) if self.random.random() < 0.8 else self.maker.query()))
-                step(sends, machine.turn(*(ask(*it) for it in sends)), together=True)
+                # A datagram is answered before the others or among them, and so it is a query, which sees the same in both.
+                first = [(self.random.choice(udp), self.maker.query())] if self.random.random() < 0.5 else []
+                out = [line for one in first for line in machine.turn(ask(*one))]
+                most, share, sends = self.random.choice([1, 1, 4]), self.random.choice([0.8, 1]), {}
+                for number in range(len(tcp)):
+                    kind = self.maker.pick((lambda: self.maker.update(machine), 8), (lambda: self.maker.request(machine), 3))
+                    if self.random.random() < share:
+                        sends[number] = [kind()[:65535] for _ in range(self.random.randint(1, most))]
+                out += machine.turns(sends)
+                step(first + [(tcp[it], one) for it in sends for one in sends[it]], out, together=True)
             elif how == "transfers":
                 zone, it = self.any_zone(), self.random.choice(tcp)
                 for version in [None, *range(zone.shown + 1)]:
@@ -803,7 +889,7 @@ class Runner:
     def lost(self):
         """Several entries that one sync makes durable, of which a crash keeps some; then one entry in the place of the first."""
         zone = self.any_zone()
-        self.serve(zone, 4)
+        self.serve(zone, self.random.choice([2, 4, 5, 40] if zone.spec["j"] < 80 else [4, 40]))
         self.serve(zone, 1)
         self.dump()
 
@@ -852,6 +938,7 @@ class Runner:
 
     def play(self, server, steps, refused, how):
         """Asks what is to be asked. Whether the server was killed meanwhile."""
+        self.peers = {}
         deadline = time.monotonic() + PATIENCE
         while True:
             text = open(f"{self.folder}/log").read()
@@ -872,6 +959,7 @@ class Runner:
                 it = sockets["udp", place] = socket.socket(socket.AF_INET, socket.SOCK_DGRAM)
                 it.bind((place, 0))
                 it.connect(("127.0.0.1", self.port))
+                self.peers["udp", *it.getsockname()] = "udp", place
             for number, step in enumerate(steps):
                 if not has_ended:
                     has_ended = self.step(server, sockets, step, number, may_end)
@@ -897,7 +985,8 @@ class Runner:
                 if place not in sockets:
                     it = sockets[place] = socket.create_connection(("127.0.0.1", self.port), 5, (ADDRESSES[int(place[1]) % 2], 0))
                     it.setsockopt(socket.IPPROTO_TCP, socket.TCP_NODELAY, 1)
-                sockets[place].sendall(octets if place[0] == "udp" else struct.pack(">H", len(octets)) + octets)
+                    self.peers["tcp", *it.getsockname()] = place
+                sockets[place].sendall(octets if place[0] == "udp" else framed(octets))
         except OSError:
             pass
         finally:
