@@ -7,7 +7,7 @@ _dnsprim_origins() { sed -n 's/^[[:blank:]]*origin[[:blank:]]*=[[:blank:]]*"\([[
 _dnsprim_options() {
     case $1 in
         load) echo --dry-run --explain --help ;;
-        serve) echo --turns --quiet --count-every --explain --help ;;
+        serve) echo --turns --quiet --count-every --log-level --explain --help ;;
         fetch) echo --since --seconds --explain --help ;;
         check) echo --config --explain --help ;;
         dump) echo --serial --explain --help ;;
@@ -23,7 +23,7 @@ _dnsprim_arguments() {
     local at
     for ((at = 2; at < COMP_CWORD; at++)); do
         case ${COMP_WORDS[at]} in
-            --turns | --since | --seconds | --serial | --count-every)
+            --turns | --since | --seconds | --serial | --count-every | --log-level)
                 [[ ${COMP_WORDS[at + 1]} != = ]] || ((at++))
                 ((at++))
                 ;;
@@ -39,6 +39,7 @@ _dnsprim_words() {
     case $previous,$current in
         --since,*) echo :files && return ;;
         --turns,*) echo unlimited && return ;;
+        --log-level,*) echo off error warn info debug trace && return ;;
         --seconds,* | --serial,* | --count-every,*) return ;;
     esac
     ((COMP_CWORD > 1)) || { echo "$commands --help --version" && return; }

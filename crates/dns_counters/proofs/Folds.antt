@@ -14,7 +14,7 @@ use Rattle.dns_primary.specs.Fullness.{IsFullness}
 use Rattle.dns_primary.specs.Machine.{ZoneState, kept_of}
 use Rattle.dns_counters.specs.declared.counters.Counters.{Counters}
 use Rattle.dns_counters.specs.Counters.{with_headers, with_reply}
-use Rattle.dns_counters.specs.Lines.{zone_line, zone_told, zones_told}
+use Rattle.dns_counters.specs.Lines.{counts_line, zone_told, zones_told}
 
 headers_push : (c : Counters) (hs : List HeaderTo) (h : HeaderTo) → with_headers c (hs ++ h ∷ []) ≡ with_reply (with_headers c hs) h.octets
 headers_push c [] h = refl
@@ -53,9 +53,9 @@ pub no_zone : (origin : Labels) (z : Option ZoneState) (out : Option (List ℕ))
 no_zone origin z out none = subst (λ (x : Option ZoneState). Appends out out (zone_told origin x)) (sym none) (Appends-nil out)
 
 pub one_zone : (origin : Labels) (z : Option ZoneState) (number : ℕ) (zone : Zone) (f : Fullness) (out out_after : Option (List ℕ)) → IsShown number zone z → IsFullness f z
-    → Appends out out_after (zone_line origin number zone f) → Appends out out_after (zone_told origin z)
+    → Appends out out_after (counts_line origin number zone f) → Appends out out_after (zone_told origin z)
 one_zone origin None number zone f out out_after shown full said = absurd shown
 one_zone origin (Some z) number zone f out out_after shown full said =
-    subst (λ (x : Fullness). Appends out out_after (zone_line origin (length z.shown) (shown_zone (kept_of z)) x)) full
-    (subst (λ (x : Zone). Appends out out_after (zone_line origin (length z.shown) x f)) shown.1
-    (subst (λ (x : ℕ). Appends out out_after (zone_line origin x zone f)) shown.0 said))
+    subst (λ (x : Fullness). Appends out out_after (counts_line origin (length z.shown) (shown_zone (kept_of z)) x)) full
+    (subst (λ (x : Zone). Appends out out_after (counts_line origin (length z.shown) x f)) shown.1
+    (subst (λ (x : ℕ). Appends out out_after (counts_line origin x zone f)) shown.0 said))

@@ -1,5 +1,5 @@
 -- What a server has done, in numbers.
-use Rattle.std.specs.Prelude.{ℕ, ◌+◌, ◌-◌, ◌^◌, ◌/◌, ◌%◌, ◌==◌, min, Bool, true, false, List, [], ◌∷◌}
+use Rattle.std.specs.Prelude.{ℕ, ◌+◌, ◌-◌, ◌^◌, ◌/◌, ◌%◌, ◌==◌, min, Bool, true, false, List, [], ◌∷◌, filter, length}
 use Rattle.std.specs.Prelude.{slice_index, slice_set, replicate, Option, Some, None, if◌then◌else◌}
 use Rattle.dns_records.specs.Types.{type_ixfr}
 use Rattle.dns_request.specs.Request.{Request, Ignored, Refused, NotServed, Query, Update, Transfer, request_of}
@@ -65,46 +65,64 @@ with_answer c Flush message = with_octets c message
 with_answer c (Checkpoint place) message = with_octets c message
 with_answer c (Closed number) message = with_octets c message
 
--- A transfer that is asked for is incremental or of the whole zone (RFC 1995, RFC 5936).
-abbrev pub with_request : Counters → Request → Counters
-with_request c (Transfer m q) =
-    if q.qtype == type_ixfr then record c { incremental = more c.incremental }
+-- Whether a transfer is open on the connection with a number; and on how many one is.
+abbrev pub with_open : Counters → ℕ → Bool → Counters
+with_open c number is_open = record c { sending = slice_set c.sending number is_open }
+
+abbrev pub open_count : Counters → ℕ
+open_count c = length (filter (λ is_open. is_open) c.sending)
+
+-- A transfer that is asked for on the connection with a number is open there. It is incremental or of the whole
+-- zone (RFC 1995, RFC 5936).
+abbrev pub with_kind : Counters → ℕ → Counters
+with_kind c qtype =
+    if qtype == type_ixfr then record c { incremental = more c.incremental }
     else record c { whole = more c.whole }
-with_request c Ignored = c
-with_request c (Refused rcode) = c
-with_request c (NotServed m q rcode) = c
-with_request c (Query m q) = c
-with_request c (Update m q) = c
 
--- A message on a connection that gets no reply opens the transfer that it asks for, unless something is noted.
-abbrev pub with_message : Counters → List ℕ → Option Reply → Noted → Counters
-with_message c octets None noted.Nothing = with_request c (request_of octets Tcp)
-with_message c octets None noted.OutOfMemory = c
-with_message c octets None (noted.Device place) = c
-with_message c octets (Some reply) noted = c
+abbrev pub with_request : Counters → ℕ → Request → Counters
+with_request c number (Transfer m q) = with_kind (with_open c number true) q.qtype
+with_request c number Ignored = c
+with_request c number (Refused rcode) = c
+with_request c number (NotServed m q rcode) = c
+with_request c number (Query m q) = c
+with_request c number (Update m q) = c
 
-abbrev pub with_opened : Counters → Event → Effects → Counters
-with_opened c (Arrives number octets) effects = with_message c octets effects.message effects.noted
-with_opened c (Datagram peer octets) effects = c
-with_opened c (Connect peer) effects = c
-with_opened c Flush effects = c
-with_opened c (Checkpoint place) effects = c
-with_opened c (Pump number) effects = c
-with_opened c (Closed number) effects = c
+-- A message on a connection that gets no reply opens the transfer that it asks for, and a pump that finds no
+-- message ends the one there, unless something is noted.
+abbrev pub with_silent : Counters → Event → Counters
+with_silent c (Arrives number octets) = with_request c number (request_of octets Tcp)
+with_silent c (Pump number) = with_open c number false
+with_silent c (Datagram peer octets) = c
+with_silent c (Connect peer) = c
+with_silent c Flush = c
+with_silent c (Checkpoint place) = c
+with_silent c (Closed number) = c
+
+abbrev pub with_transfer_of : Counters → Event → Option Reply → Noted → Counters
+with_transfer_of c event None noted.Nothing = with_silent c event
+with_transfer_of c event None noted.OutOfMemory = c
+with_transfer_of c event None (noted.Device place) = c
+with_transfer_of c event (Some reply) noted = c
+
+abbrev pub with_transfer : Counters → Event → Effects → Counters
+with_transfer c event effects = with_transfer_of c event effects.message effects.noted
 
 abbrev pub with_event : Counters → Event → Effects → Counters
 with_event c event effects =
-    with_opened (with_answer (with_headers c effects.headers.items) event effects.message) event effects
+    with_transfer (with_answer (with_headers c effects.headers.items) event effects.message) event effects
 
--- A connection that is opened, closed, or refused is counted.
+-- A connection that is opened, closed, silent, stalled, or refused is counted.
 abbrev pub with_note : Counters → Note → Counters
 with_note c (note.Opened number peer) = record c { opened = more c.opened }
-with_note c (note.Closed number) = record c { closed = more c.closed }
+with_note c (note.Closed number) = with_open (record c { closed = more c.closed }) number false
+with_note c (note.Silent number) = record c { silent = more c.silent }
+with_note c (note.Stalled number) = record c { silent = more c.silent }
 with_note c note.Refused = record c { refused = more c.refused }
 with_note c note.OutOfMemory = c
 with_note c (note.Device place) = c
 with_note c (note.Begins now) = c
 with_note c note.Ends = c
+with_note c note.Unrecorded = c
 
 abbrev pub with_report : Counters → Report → Counters
 with_report c (OfNote one) = with_note c one
@@ -126,6 +144,8 @@ no_counts = record {
   opened = 0;
   closed = 0;
   refused = 0;
+  silent = 0;
+  sending = replicate 64 false;
 }
 
 -- What an observer that counts has after a report, if it counts at all.

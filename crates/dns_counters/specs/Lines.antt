@@ -10,6 +10,7 @@ use Rattle.dns_primary.specs.declared.fullness.Fullness.{Fullness}
 use Rattle.dns_primary.specs.Fullness.{fullness_of}
 use Rattle.dns_primary.specs.Machine.{ZoneState, kept_of}
 use Rattle.dns_counters.specs.declared.counters.Counters.{Counters}
+use Rattle.dns_counters.specs.Counters.{open_count}
 
 -- Replies to queries by their codes, and those that were truncated.
 abbrev pub query_counts : Counters → List ℕ
@@ -50,13 +51,15 @@ update_tests c =
 abbrev pub transfer_counts : Counters → List ℕ
 transfer_counts c =
     codes " transfers_whole=" ++ (decimal c.whole
-    ++ (codes " transfers_incremental=" ++ decimal c.incremental))
+    ++ (codes " transfers_incremental=" ++ (decimal c.incremental
+    ++ (codes " transfers_open=" ++ decimal (open_count c)))))
 
 abbrev pub connection_counts : Counters → List ℕ
 connection_counts c =
     codes " connections_opened=" ++ (decimal c.opened
     ++ (codes " connections_closed=" ++ (decimal c.closed
-    ++ (codes " connections_refused=" ++ (decimal c.refused ++ codes "\n")))))
+    ++ (codes " connections_silent=" ++ (decimal c.silent
+    ++ (codes " connections_refused=" ++ (decimal c.refused ++ codes "\n")))))))
 
 abbrev pub server_line : Counters → List ℕ
 server_line c =
@@ -85,15 +88,15 @@ journal_counts f =
     ++ (codes " journal_sectors=" ++ (decimal f.journal_sectors
     ++ (codes " closed=" ++ (decimal (flag f.is_closed) ++ codes "\n")))))
 
-abbrev pub zone_line : Labels → ℕ → Zone → Fullness → List ℕ
-zone_line origin version zone f =
+abbrev pub counts_line : Labels → ℕ → Zone → Fullness → List ℕ
+counts_line origin version zone f =
     zone_counts origin version zone ++ (snapshot_counts f ++ journal_counts f)
 
 -- The line of a zone of a machine, where there is one, and those of zones that have these names, in order.
 abbrev pub zone_told : Labels → Option ZoneState → List ℕ
 zone_told origin None = []
 zone_told origin (Some z) =
-    zone_line origin (length z.shown) (shown_zone (kept_of z)) (fullness_of (kept_of z))
+    counts_line origin (length z.shown) (shown_zone (kept_of z)) (fullness_of (kept_of z))
 
 abbrev pub zones_told : List Labels → List ZoneState → List ℕ
 zones_told [] zones = []

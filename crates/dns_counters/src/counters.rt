@@ -4,8 +4,8 @@ ghost use Rattle.dns_request.specs.Request.{request_of};
 ghost use Rattle.dns_request.specs.declared.request.Transport.TheVariants.{Tcp};
 ghost use Rattle.dns_primary.specs.Steps.{event_shown};
 ghost use Rattle.dns_counters.specs.Counters.{code_in, is_cut, more, more_at, no_counts, opcode_in};
-ghost use Rattle.dns_counters.specs.Counters.{with_answer, with_event, with_headers, with_note, with_opened};
-ghost use Rattle.dns_counters.specs.Counters.{with_reply, with_request};
+ghost use Rattle.dns_counters.specs.Counters.{open_count, with_answer, with_event, with_headers, with_note};
+ghost use Rattle.dns_counters.specs.Counters.{with_open, with_reply, with_request, with_transfer};
 
 use dns_network::Note;
 use dns_primary::{Effects, Event, HeaderTo, Noted, Reply};
@@ -31,6 +31,10 @@ pub struct Counters {
     pub closed: u64,
     /// Connections that were closed at once for want of a place.
     pub refused: u64,
+    /// Connections that were closed because nothing came on them, or nothing could be written, for 30 seconds.
+    pub silent: u64,
+    /// On which connections, by their numbers, a transfer is open.
+    pub sending: [bool; 64],
 }
 
 /// One more.
@@ -94,11 +98,29 @@ impl Counters {
             opened: 0,
             closed: 0,
             refused: 0,
+            silent: 0,
+            sending: [false; 64],
+        }
+    }
+
+    /// How many transfers are open. Each keeps the version that it sends.
+    pub fn open_count(&self) -> usize
+        ensures { result ≡ open_count self.now }
+    {
+        self.sending.iter().filter(|is_open| **is_open).count()
+    }
+
+    /// Sets whether a transfer is open on the connection with a number.
+    fn set_open(&mut self, number: usize, is_open: bool)
+        ensures { self.new ≡ with_open self.old number is_open }
+    {
+        if number < self.sending.len() {
+            self.sending[number] = is_open;
         }
     }
 
     /// Counts a reply by its opcode and its response code.
-    pub fn count_reply(&mut self, reply: &[u8])
+    fn count_reply(&mut self, reply: &[u8])
         ensures { self.new ≡ with_reply self.old reply.now }
     {
         let code = code_in(reply);
@@ -133,11 +155,12 @@ impl Counters {
         }
     }
 
-    /// Counts the transfer that octets ask for, if they do.
-    fn count_request(&mut self, octets: &[u8])
-        ensures { self.new ≡ with_request self.old (request_of octets.now Tcp) }
+    /// Counts the transfer that octets ask for on the connection with a number, if they do.
+    fn count_request(&mut self, number: usize, octets: &[u8])
+        ensures { self.new ≡ with_request self.old number (request_of octets.now Tcp) }
     {
         if let Request::Transfer(request) = classify(octets, Transport::Tcp) {
+            self.set_open(number, true);
             if request.question.qtype() == types::IXFR {
                 self.incremental = more(self.incremental);
             } else {
@@ -146,40 +169,51 @@ impl Counters {
         }
     }
 
-    /// Counts the transfer that an event opened, if it did.
-    fn count_opened(&mut self, event: Event<'_>, effects: &Effects)
-        ensures { self.new ≡ with_opened self.old (event_shown event.entry) effects.now }
+    /// Counts the transfer that an event opened or ended, if it did.
+    fn count_transfer(&mut self, event: Event<'_>, effects: &Effects)
+        ensures { self.new ≡ with_transfer self.old (event_shown event.entry) effects.now }
     {
-        let Event::Message(_, octets) = event else {
-            return;
-        };
         if effects.message.is_some() | (effects.noted != Noted::Nothing) {
             return;
         }
-        self.count_request(octets);
+        match event {
+            Event::Message(number, octets) => self.count_request(number, octets),
+            Event::Pump(number) => self.set_open(number, false),
+            Event::Datagram(_, _) => {}
+            Event::Connect(_) => {}
+            Event::Flush => {}
+            Event::Checkpoint(_) => {}
+            Event::Closed(_) => {}
+        }
     }
 
-    /// Counts what an event did: the replies that go out, and the transfer that it opened.
-    pub fn count_event(&mut self, event: Event<'_>, effects: &Effects)
+    /// Counts what an event did: the replies that go out, and the transfer that it opened or ended.
+    pub(crate) fn count_event(&mut self, event: Event<'_>, effects: &Effects)
         ensures { self.new ≡ with_event self.old (event_shown event.entry) effects.now }
     {
         self.count_headers(effects.headers.as_slice());
         self.count_answer(event, &effects.message);
-        self.count_opened(event, effects);
+        self.count_transfer(event, effects);
     }
 
     /// Counts a connection that is opened, closed or refused.
-    pub fn count_note(&mut self, note: Note)
+    pub(crate) fn count_note(&mut self, note: Note)
         ensures { self.new ≡ with_note self.old note }
     {
         match note {
             Note::Opened(_, _) => self.opened = more(self.opened),
-            Note::Closed(_) => self.closed = more(self.closed),
+            Note::Closed(number) => {
+                self.closed = more(self.closed);
+                self.set_open(number, false);
+            }
+            Note::Silent(_) => self.silent = more(self.silent),
+            Note::Stalled(_) => self.silent = more(self.silent),
             Note::Refused => self.refused = more(self.refused),
             Note::OutOfMemory => {}
             Note::Device(_) => {}
             Note::Begins(_) => {}
             Note::Ends => {}
+            Note::Unrecorded => {}
         }
     }
 }

@@ -2,7 +2,7 @@
 ghost use Rattle.std.specs.Prelude.{◌≡◌};
 ghost use Rattle.dns_primary.specs.Steps.{event_shown};
 ghost use Rattle.dns_network.specs.Notes.{OfEvent, OfNote};
-ghost use Rattle.dns_counters.specs.Counters.{counted};
+ghost use Rattle.dns_counters.specs.Counters.{counted, no_counts};
 ghost use Rattle.dns_counters.specs.declared.counters.Counters.{Counters as StatedCounters};
 
 use crate::Counters;
@@ -20,7 +20,9 @@ pub struct Counting {
 
 impl Counting {
     /// One that has counted nothing.
-    pub fn new(is_on: bool) -> Counting {
+    pub fn new(is_on: bool) -> Counting
+        ensures { result ≡ record { counters = no_counts; is_on = is_on } }
+    {
         Counting {
             counters: Counters::new(),
             is_on,
@@ -49,14 +51,4 @@ impl Counting {
             self.counters.count_event(event, effects);
         }
     }
-}
-
-/// Who has counted something.
-pub trait Counted {
-    /// What was counted.
-    ghost counts: { Self → StatedCounters };
-
-    /// What was counted.
-    fn counters(&self) -> &Counters
-        ensures { result.now ≡ counts self.now };
 }

@@ -7,6 +7,5 @@ mod lines;
 mod telling;
 
 pub use counters::Counters;
-pub use counting::{Counted, Counting};
-pub use lines::{write_counters, write_zone};
-pub use telling::{CountLines, write_counts};
+pub use counting::Counting;
+pub use telling::CountLines;

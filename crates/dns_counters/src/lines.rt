@@ -1,9 +1,9 @@
 //! The lines that tell what was counted.
 ghost use Rattle.std.specs.Prelude.{◌≡◌, ◌++◌, OnOk};
 ghost use Rattle.std.specs.Io.KnownBytes.{Appends};
-ghost use Rattle.dns_counters.specs.Lines.{connection_counts, flag, journal_counts, query_counts};
+ghost use Rattle.dns_counters.specs.Lines.{connection_counts, counts_line, flag, journal_counts, query_counts};
 ghost use Rattle.dns_counters.specs.Lines.{query_refusals, server_line, snapshot_counts, transfer_counts};
-ghost use Rattle.dns_counters.specs.Lines.{update_counts, update_refusals, update_tests, zone_counts, zone_line};
+ghost use Rattle.dns_counters.specs.Lines.{update_counts, update_refusals, update_tests, zone_counts};
 
 use crate::Counters;
 use dns_names::Name;
@@ -36,7 +36,8 @@ fn write_query_refusals<W: Write>(out: &mut W, c: &Counters) -> io::Result<()>
 
 /// Writes the counts of queries.
 fn write_queries<W: Write>(out: &mut W, c: &Counters) -> io::Result<()>
-    ensures { OnOk result (Appends (W.contents out.old) (W.contents out.new) (query_counts c.now ++ query_refusals c.now)) }
+    ensures { OnOk result (Appends (W.contents out.old) (W.contents out.new)
+        (query_counts c.now ++ query_refusals c.now)) }
 {
     write_query_counts(out, c)?;
     write_query_refusals(out, c)
@@ -77,21 +78,22 @@ fn write_update_tests<W: Write>(out: &mut W, c: &Counters) -> io::Result<()>
 
 /// Writes the counts of updates.
 fn write_updates<W: Write>(out: &mut W, c: &Counters) -> io::Result<()>
-    ensures { OnOk result (Appends (W.contents out.old) (W.contents out.new) (update_counts c.now ++ (update_refusals c.now ++ update_tests c.now))) }
+    ensures { OnOk result (Appends (W.contents out.old) (W.contents out.new)
+        (update_counts c.now ++ (update_refusals c.now ++ update_tests c.now))) }
 {
     write_update_counts(out, c)?;
     write_update_refusals(out, c)?;
     write_update_tests(out, c)
 }
 
-/// Writes how many transfers were opened.
+/// Writes how many transfers were opened, and how many are open.
 fn write_transfer_counts<W: Write>(out: &mut W, c: &Counters) -> io::Result<()>
     ensures { OnOk result (Appends (W.contents out.old) (W.contents out.new) (transfer_counts c.now)) }
 {
-    let (whole, incremental) = (c.whole, c.incremental);
+    let (whole, incremental, sending) = (c.whole, c.incremental, c.open_count());
     write!(
         out,
-        " transfers_whole={whole} transfers_incremental={incremental}"
+        " transfers_whole={whole} transfers_incremental={incremental} transfers_open={sending}"
     )
 }
 
@@ -99,23 +101,25 @@ fn write_transfer_counts<W: Write>(out: &mut W, c: &Counters) -> io::Result<()>
 fn write_connection_counts<W: Write>(out: &mut W, c: &Counters) -> io::Result<()>
     ensures { OnOk result (Appends (W.contents out.old) (W.contents out.new) (connection_counts c.now)) }
 {
-    let (opened, closed, refused) = (c.opened, c.closed, c.refused);
+    let (opened, closed, silent, refused) = (c.opened, c.closed, c.silent, c.refused);
     writeln!(
         out,
-        " connections_opened={opened} connections_closed={closed} connections_refused={refused}"
+        " connections_opened={opened} connections_closed={closed} connections_silent={silent} \
+         connections_refused={refused}"
     )
 }
 
 /// Writes the counts of transfers and connections.
 fn write_connections<W: Write>(out: &mut W, c: &Counters) -> io::Result<()>
-    ensures { OnOk result (Appends (W.contents out.old) (W.contents out.new) (transfer_counts c.now ++ connection_counts c.now)) }
+    ensures { OnOk result (Appends (W.contents out.old) (W.contents out.new)
+        (transfer_counts c.now ++ connection_counts c.now)) }
 {
     write_transfer_counts(out, c)?;
     write_connection_counts(out, c)
 }
 
 /// Writes the line of the server: `server queries_noerror=N ..`, each count since it began.
-pub fn write_counters<W: Write>(out: &mut W, c: &Counters) -> io::Result<()>
+pub(crate) fn write_counters<W: Write>(out: &mut W, c: &Counters) -> io::Result<()>
     ensures { OnOk result (Appends (W.contents out.old) (W.contents out.new) (server_line c.now)) }
 {
     write_queries(out, c)?;
@@ -169,7 +173,7 @@ fn write_journal_counts<W: Write>(out: &mut W, f: Fullness) -> io::Result<()>
 
 /// Writes the line of a zone: `zone=ORIGIN version=V serial=M records=N ..`, as it is shown now, and the
 /// sectors of its store.
-pub fn write_zone<W: Write, I: ZoneIndex>(
+pub(crate) fn write_zone<W: Write, I: ZoneIndex>(
     out: &mut W,
     origin: &Name,
     version: u64,
@@ -177,7 +181,7 @@ pub fn write_zone<W: Write, I: ZoneIndex>(
     fullness: Fullness,
 ) -> io::Result<()>
     ensures { OnOk result (Appends (W.contents out.old) (W.contents out.new)
-        (zone_line origin.now version zone.now fullness)) }
+        (counts_line origin.now version zone.now fullness)) }
 {
     write_version(out, origin, version, zone)?;
     write_snapshot_counts(out, fullness)?;

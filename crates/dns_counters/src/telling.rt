@@ -1,11 +1,13 @@
 //! When counts are told, and where.
-ghost use Rattle.std.specs.Prelude.{◌≡◌, IfOk, OnOk, Option, List, ℕ, slice_get};
+ghost use Rattle.std.specs.Prelude.{◌≡◌, IfOk, Ok, OnOk, false, slice_get};
 ghost use Rattle.std.specs.Io.KnownBytes.{Appends};
 ghost use Rattle.dns_primary.specs.Keeps.{IsKept};
 ghost use Rattle.dns_primary.specs.Machine.{Machine};
 ghost use Rattle.dns_counters.specs.Lines.{counts_told, zone_told, zones_told};
+ghost use Rattle.dns_counters.specs.Telling.{IsTold, is_due, next_due};
 
-use crate::{Counters, write_counters, write_zone};
+use crate::Counters;
+use crate::lines::{write_counters, write_zone};
 use dns_memory::Heap;
 use dns_names::Name;
 use dns_primary::Primary;
@@ -34,7 +36,8 @@ fn write_zone_at<I: ZoneIndex, S: ZoneStore, W: Write>(
     index: usize,
 ) -> io::Result<()>
     ensures { OnOk result ((m : Machine) → IsKept primary.now m
-        → Appends (W.contents out.old) (W.contents out.new) (zone_told origin.now (slice_get m.zones index))) }
+        → Appends (W.contents out.old) (W.contents out.new)
+        (zone_told origin.now (slice_get m.zones index))) }
 {
     let Some((version, zone)) = primary.shown(index) else {
         return Ok(());
@@ -61,7 +64,7 @@ fn write_zones<I: ZoneIndex, S: ZoneStore, W: Write>(
 }
 
 /// Writes the line of each zone, and then the line of the server.
-pub fn write_counts<I: ZoneIndex, S: ZoneStore, W: Write>(
+fn write_counts<I: ZoneIndex, S: ZoneStore, W: Write>(
     out: &mut W,
     counters: &Counters,
     primary: &Primary<I, S>,
@@ -84,6 +87,8 @@ impl<O: Write> CountLines<'_, O> {
     ) -> io::Result<()>
         ensures same_reference { self.new.out.ghost_name ≡ self.old.out.ghost_name }
         ensures every { self.new.every ≡ self.old.every }
+        ensures origins { self.new.origins.now ≡ self.old.origins.now }
+        ensures next { self.new.next ≡ self.old.next }
         ensures told { OnOk result ((m : Machine) → IsKept primary.now m
             → Appends (O.contents self.old.out.now) (O.contents self.new.out.now)
             (counts_told counters.now self.old.origins.now m.zones)) }
@@ -93,22 +98,32 @@ impl<O: Write> CountLines<'_, O> {
         self.out.write_all(lines.as_slice())
     }
 
-    /// Writes the lines if it is time. Those that can't be written are left out.
+    /// Writes the lines if it is time, and answers whether it was. If they can't be written, or memory is
+    /// refused, there is an error; the next ones come as many seconds later.
     pub fn tell_if_due<I: ZoneIndex, S: ZoneStore>(
         &mut self,
         heap: Heap,
         counters: &Counters,
         primary: &Primary<I, S>,
         now: u64,
-    )
+    ) -> io::Result<bool>
         ensures same_reference { self.new.out.ghost_name ≡ self.old.out.ghost_name }
         ensures every { self.new.every ≡ self.old.every }
-        ensures never { self.old.every ≡ 0 → O.contents self.new.out.now ≡ O.contents self.old.out.now }
+        ensures origins { self.new.origins.now ≡ self.old.origins.now }
+        ensures due { IfOk result (λ due. due ≡ is_due now self.old.every self.old.next) }
+        ensures next { self.new.next ≡ next_due now self.old.every self.old.next }
+        ensures told { IsTold result
+            ((m : Machine) → IsKept primary.now m
+            → Appends (O.contents self.old.out.now) (O.contents self.new.out.now)
+            (counts_told counters.now self.old.origins.now m.zones))
+            (O.contents self.new.out.now ≡ O.contents self.old.out.now) }
+        ensures never { is_due now self.old.every self.old.next ≡ false → result ≡ Ok false }
     {
         if self.every == 0 || now < self.next {
-            return;
+            return Ok(false);
         }
         self.next = now.saturating_add(self.every);
-        let _told = self.tell(heap, counters, primary);
+        self.tell(heap, counters, primary)?;
+        Ok(true)
     }
 }

@@ -49,12 +49,12 @@ module _ {I D S N L : Type 0} {i : index.Ghosts I} {d : store.Ghosts D} (s : str
     same_is : (old new : Served I D S N L i d) → new.connections ≡ old.connections → Is known number old.connections → Is known number new.connections
     same_is old new same is = subst (Is known number) (sym same) is
 
-    caused : (cause : Cause) (old new : Served I D S N L i d) → IsCauseNoted l cause old new → new.connections ≡ old.connections
-    caused HasEnded old new same = ap places same
-    caused Silent old new same = ap places same
-    caused Stalled old new same = ap places same
-    caused NoMemory old new noted = ap places noted.rest
-    caused NoPlace old new same = ap places same
+    caused : (target : ℕ) (cause : Cause) (old new : Served I D S N L i d) → IsCauseNoted l target cause old new → new.connections ≡ old.connections
+    caused target HasEnded old new same = ap places same
+    caused target Silent old new noted = ap places noted.rest
+    caused target Stalled old new noted = ap places noted.rest
+    caused target NoMemory old new noted = ap places noted.rest
+    caused target NoPlace old new same = ap places same
 
     came_is : (event : Event) (old given : Served I D S N L i d) → EventComes n now event old given → Is known number old.connections
         → Is known number given.connections
@@ -82,7 +82,7 @@ module _ {I D S N L : Type 0} {i : index.Ghosts I} {d : store.Ghosts D} (s : str
         effects_stay n l known number lasts.queued effects goings h.told new h.happened told
     moment_is (Closes target cause) old new h is =
         subst (Is known number) (sym h.closed.gone)
-        (gone_stays known number target h.told.connections (same_is old h.told (caused cause old h.told h.noted) is))
+        (gone_stays known number target h.told.connections (same_is old h.told (caused target cause old h.told h.noted) is))
 
     moments_are : (moments : List TurnMoment) (old new : Served I D S N L i d) → AreMoments s n l now moments old new → Is known number old.connections
         → Is known number new.connections

@@ -188,7 +188,7 @@ module _ {I D S N L : Type 0} {i : index.Ghosts I} {d : store.Ghosts D} (s : str
 
   -- a connection gave a cause to close it, and was closed
   pub closes : (number : ℕ) (cause : Cause) (old told new : Served I D S N L i d) → GivesCause s now cause number old.connections
-      → IsCauseNoted l cause old told → IsClosed l number told new → IsMoment s n l now (Closes number cause) old new
+      → IsCauseNoted l number cause old told → IsClosed l number told new → IsMoment s n l now (Closes number cause) old new
   closes number cause old told new gives noted closed = record { gives = gives; told = told; noted = noted; closed = closed }
 
 module _ {I D S N L : Type 0} {i : index.Ghosts I} {d : store.Ghosts D} (l : notes.Ghosts L) where

@@ -82,17 +82,20 @@ module _ {I D S N L : Type 0} {i : index.Ghosts I} {d : store.Ghosts D} (s : str
   come_noted now (Checkpoint place) old given h = absurd h
   come_noted now (Closed number) old given h = absurd h
 
-  closed_noted : (now number : ℕ) (cause : Cause) (old new : Served I D S N L i d) → ClosedFor s l now number cause old new → AreNoted l (notes_of_cause cause ++ note.Closed number ∷ []) old.notes new.notes
+  closed_noted : (now number : ℕ) (cause : Cause) (old new : Served I D S N L i d) → ClosedFor s l now number cause old new → AreNoted l (notes_of_cause number cause ++ note.Closed number ∷ []) old.notes new.notes
   closed_noted now number cause old new is = go cause is.noted
     where
       alone : is.told ≡ old → AreNoted l (note.Closed number ∷ []) old.notes new.notes
       alone same = (new.notes, subst (λ (x : Served I D S N L i d). l.takes x.notes (note.Closed number) new.notes) same is.closed.noted, refl)
 
-      go : (cause : Cause) → IsCauseNoted l cause old is.told → AreNoted l (notes_of_cause cause ++ note.Closed number ∷ []) old.notes new.notes
+      after : (one : Note) → HasNoted l one old is.told → AreNoted l (one ∷ note.Closed number ∷ []) old.notes new.notes
+      after one first = (is.told.notes, first.noted, (new.notes, is.closed.noted, refl))
+
+      go : (cause : Cause) → IsCauseNoted l number cause old is.told → AreNoted l (notes_of_cause number cause ++ note.Closed number ∷ []) old.notes new.notes
       go HasEnded same = alone same
-      go Silent same = alone same
-      go Stalled same = alone same
-      go NoMemory first = (is.told.notes, first.noted, (new.notes, is.closed.noted, refl))
+      go Silent first = after (note.Silent number) first
+      go Stalled first = after (note.Stalled number) first
+      go NoMemory first = after note.OutOfMemory first
       go NoPlace same = alone same
 
   -- An event is observed, and then what its replies and its effects note is taken.
@@ -117,7 +120,7 @@ module _ {I D S N L : Type 0} {i : index.Ghosts I} {d : store.Ghosts D} (s : str
   moment_noted now (Refuses peer) old new h = reported_as l (note.Refused ∷ []) old.notes new.notes (new.notes, h.noted, refl)
   moment_noted now (Happens event effects goings) old new h = happened_noted now event effects goings old new h
   moment_noted now (Closes number cause) old new h =
-      reported_as l (notes_of_cause cause ++ note.Closed number ∷ []) old.notes new.notes (closed_noted now number cause old new h)
+      reported_as l (notes_of_cause number cause ++ note.Closed number ∷ []) old.notes new.notes (closed_noted now number cause old new h)
 
   done_noted : (now : ℕ) (rested : Option ℕ) (moments : List TurnMoment) (old new : Served I D S N L i d) → AreDone s n l now rested moments old new → Took l (AreOfEach AreReportsOfMoment moments) old.notes new.notes
   done_noted now rested moments old new is =

@@ -128,12 +128,12 @@ module _ {I D S N L : Type 0} {i : index.Ghosts I} {d : store.Ghosts D} (n : Gho
   cut_stays old new (inl (long, same)) = ap (λ (x : Served I D S N L i d). x.primary) same
   cut_stays old new (inr (there, noted)) = noted_stays note.OutOfMemory old new noted
 
-  cause_stays : (cause : Cause) (old new : Served I D S N L i d) → IsCauseNoted l cause old new → new.primary ≡ old.primary
-  cause_stays HasEnded old new same = ap (λ (x : Served I D S N L i d). x.primary) same
-  cause_stays Silent old new same = ap (λ (x : Served I D S N L i d). x.primary) same
-  cause_stays Stalled old new same = ap (λ (x : Served I D S N L i d). x.primary) same
-  cause_stays NoMemory old new noted = noted_stays note.OutOfMemory old new noted
-  cause_stays NoPlace old new same = ap (λ (x : Served I D S N L i d). x.primary) same
+  cause_stays : (number : ℕ) (cause : Cause) (old new : Served I D S N L i d) → IsCauseNoted l number cause old new → new.primary ≡ old.primary
+  cause_stays number HasEnded old new same = ap (λ (x : Served I D S N L i d). x.primary) same
+  cause_stays number Silent old new noted = noted_stays (note.Silent number) old new noted
+  cause_stays number Stalled old new noted = noted_stays (note.Stalled number) old new noted
+  cause_stays number NoMemory old new noted = noted_stays note.OutOfMemory old new noted
+  cause_stays number NoPlace old new same = ap (λ (x : Served I D S N L i d). x.primary) same
 
   sent_told : (target : To) (reply : List ℕ) (cut : Bool) (old new : Served I D S N L i d) (m : Machine) → IsSent n l target reply cut old new → IsKept old.primary m
       → RunsTo (closed_for target cut) old.primary new.primary m
@@ -190,8 +190,8 @@ module _ {I D S N L : Type 0} {i : index.Ghosts I} {d : store.Ghosts D} (s : str
       (event_told event effects is.given.primary is.told.primary m is.takes (stays n l old is.given m (given_stays n l now event old is.given is.is_given) kept)))
       (λ e kept'. effects_told n l effects goings is.told new e is.happened kept')
   moment_told now (Closes number cause) old new m is kept =
-      told_from (closing number ∷ []) old.primary is.told.primary new.primary m (cause_stays n l cause old is.told is.noted)
-      (closing_told number is.closed.effects is.told.primary new.primary m is.closed.told (stays n l old is.told m (cause_stays n l cause old is.told is.noted) kept))
+      told_from (closing number ∷ []) old.primary is.told.primary new.primary m (cause_stays n l number cause old is.told is.noted)
+      (closing_told number is.closed.effects is.told.primary new.primary m is.closed.told (stays n l old is.told m (cause_stays n l number cause old is.told is.noted) kept))
 
   moments_told : (now : ℕ) (moments : List TurnMoment) (old new : Served I D S N L i d) (m : Machine) → AreMoments s n l now moments old new → IsKept old.primary m
       → RunsTo (flat_map told_in moments) old.primary new.primary m

@@ -4,6 +4,7 @@ use Rattle.dns_primary.specs.declared.event.To.{To}
 use Rattle.dns_primary.specs.declared.event.To.TheVariants as to
 use Rattle.dns_network.specs.declared.network.Note.{Note}
 use Rattle.dns_network.specs.declared.network.Note.TheVariants.{Begins, Closed, Ends, OutOfMemory, Refused}
+use Rattle.dns_network.specs.declared.network.Note.TheVariants as note
 use Rattle.dns_network.specs.Closing.{Cause, HasEnded, Silent, Stalled, NoMemory, NoPlace}
 use Rattle.dns_network.specs.Notes.{Report, OfNote, OfEvent, notes_of, notes_of_opened, of_notes}
 use Rattle.dns_network.specs.Turn.{TurnMoment, Asks, Moves, Connects, Refuses, Happens, Closes}
@@ -25,13 +26,13 @@ AreNotesOfReply (to.Connection number) reply false notes = notes ≡ []
 AreNotesOfReply (to.Address peer) reply cut notes = notes ≡ []
 AreNotesOfReply to.Nowhere reply cut notes = notes ≡ []
 
--- Of the cause for which a connection is closed.
-abbrev pub notes_of_cause : Cause → List Note
-notes_of_cause HasEnded = []
-notes_of_cause Silent = []
-notes_of_cause Stalled = []
-notes_of_cause NoMemory = OutOfMemory ∷ []
-notes_of_cause NoPlace = []
+-- Of the cause for which the connection with a number is closed.
+abbrev pub notes_of_cause : ℕ → Cause → List Note
+notes_of_cause number HasEnded = []
+notes_of_cause number Silent = note.Silent number ∷ []
+notes_of_cause number Stalled = note.Stalled number ∷ []
+notes_of_cause number NoMemory = OutOfMemory ∷ []
+notes_of_cause number NoPlace = []
 
 -- Of a moment: an event is observed before its replies are sent.
 abbrev pub AreReportsOfMoment : TurnMoment → List Report → Type 0
@@ -44,7 +45,7 @@ AreReportsOfMoment (Happens event effects goings) reports =
     (closings : List Note) × AreOfEach (λ g. AreNotesOfReply g.to g.octets g.cut) goings closings
     × (reports ≡ OfEvent event effects ∷ of_notes (closings ++ notes_of effects.noted))
 AreReportsOfMoment (Closes number cause) reports =
-    reports ≡ of_notes (notes_of_cause cause ++ Closed number ∷ [])
+    reports ≡ of_notes (notes_of_cause number cause ++ Closed number ∷ [])
 
 -- Of a turn, which is told by its moments: that it begins, in some second of the clock; what is reported in
 -- it; that it ends.

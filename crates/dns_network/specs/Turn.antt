@@ -141,20 +141,21 @@ module _ {I D S N L : Type 0} {i : index.Ghosts I} {d : store.Ghosts D} where
     pub rest : told ≡ record given { primary = told.primary; notes = told.notes }
     pub happened : HasEffects n l effects goings told new
 
-  -- Refused memory is noted before the connection is closed for it, and no other cause is.
-  abbrev pub IsCauseNoted : notes.Ghosts L → Cause → Served I D S N L i d → Served I D S N L i d → Type 0
-  IsCauseNoted l HasEnded old new = new ≡ old
-  IsCauseNoted l Silent old new = new ≡ old
-  IsCauseNoted l Stalled old new = new ≡ old
-  IsCauseNoted l NoMemory old new = HasNoted l note.OutOfMemory old new
-  IsCauseNoted l NoPlace old new = new ≡ old
+  -- Silence, a stall and refused memory are noted before the connection with a number is closed for them, and
+  -- no other cause is.
+  abbrev pub IsCauseNoted : notes.Ghosts L → ℕ → Cause → Served I D S N L i d → Served I D S N L i d → Type 0
+  IsCauseNoted l number HasEnded old new = new ≡ old
+  IsCauseNoted l number Silent old new = HasNoted l (note.Silent number) old new
+  IsCauseNoted l number Stalled old new = HasNoted l (note.Stalled number) old new
+  IsCauseNoted l number NoMemory old new = HasNoted l note.OutOfMemory old new
+  IsCauseNoted l number NoPlace old new = new ≡ old
 
   -- The connection with a number gave a cause to close it, and was closed.
   pub record ClosedFor (s : stream.Ghosts S) (l : notes.Ghosts L) (now number : ℕ) (cause : Cause)
       (old new : Served I D S N L i d) : Type 0 where
     pub gives : GivesCause s now cause number old.connections
     pub told : Served I D S N L i d
-    pub noted : IsCauseNoted l cause old told
+    pub noted : IsCauseNoted l number cause old told
     pub closed : IsClosed l number told new
 
   -- It is done in the second `now`.

@@ -344,6 +344,7 @@ impl<S: Stream + Drop> Edge<S> {
             return true;
         }
         if self.connections.is_silent(number, now) {
+            turn.notes.note(Note::Silent(number));
             self.close(alloc, turn, number);
             return true;
         }
@@ -384,6 +385,7 @@ impl<S: Stream + Drop> Edge<S> {
                 return true;
             }
             if self.connections.is_stalled(number, now) {
+                turn.notes.note(Note::Stalled(number));
                 self.close(alloc, turn, number);
                 return true;
             }

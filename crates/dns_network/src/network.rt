@@ -73,6 +73,10 @@ pub enum Note {
     Opened(usize, Peer),
     /// The connection with this number is closed.
     Closed(usize),
+    /// No message came on the connection with this number for 30 seconds, and it is closed next.
+    Silent(usize),
+    /// Nothing could be written to the connection with this number for 30 seconds, and it is closed next.
+    Stalled(usize),
     /// A connection that a peer made was closed at once, for want of a place.
     Refused,
     /// Memory was refused.
@@ -83,6 +87,8 @@ pub enum Note {
     Begins(u64),
     /// A turn ends. It is the last note of each turn.
     Ends,
+    /// What happens is recorded no longer, since it can't be written. No turn has this note, but a recorder.
+    Unrecorded,
 }
 
 /// Who is told of turns.

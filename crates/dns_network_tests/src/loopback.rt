@@ -6,6 +6,7 @@ use crate::clients::{Act, Clients};
 use crate::given::device;
 use dns_configuration::{DONE, FAILED, File, REFUSED};
 use dns_devices::Devices;
+use dns_diagnostics::LevelFilter;
 use dns_memory::{Heap, heap};
 use dns_sectors::{DeviceError, MemorySectors, OpenDeviceError, Sector, Sectors};
 use dns_service::{ServeOptions, serve};
@@ -152,7 +153,7 @@ const RUNS: &[Run] = &[
         read: &[ANSWERS, FRAMED_REPLY],
         log: "conn 0 open 127.0.0.1\nconn 1 open 127.0.0.1\n\
               update 127.0.0.1 example. NOERROR version 1 serial 8\n\
-              conn 1 closed\ntransfer 127.0.0.1 example. records 5\nconn 0 closed\n",
+              conn 1 closed\ntransfer 127.0.0.1 example. 8 records 5\nconn 0 closed\n",
     },
     // One turn answers one of two datagrams.
     Run {
@@ -278,6 +279,7 @@ fn served(rt: &HostRuntime, heap: Heap, clients: &mut Clients<'_>, turns: u32) -
         turns: u64::from(turns),
         is_quiet: false,
         count_every: 0,
+        log_level: LevelFilter::Off,
         explain: false,
     };
     let mut out = Vec::new(alloc);
@@ -347,6 +349,7 @@ fn refuses(rt: &HostRuntime, heap: Heap, root: &'static [u8], told: &str) -> io:
         turns: 1,
         is_quiet: false,
         count_every: 0,
+        log_level: LevelFilter::Off,
         explain: true,
     };
     let mut out = Vec::new(rt.alloc());

@@ -183,12 +183,12 @@ module _ {C : Type 0} (c : Ghosts C) where
     placed_same now stream (Some number) old new asked (inl (let_go, set)) = passes.watches asked new.network number stream None let_go
     placed_same now stream (Some number) old new asked (inr (watched, watches, put)) = passes.watches asked new.network number stream (Some watched) watches
 
-    cause_same : (cause : Cause) (old new : Served I D S N L i d) → IsCauseNoted l cause old new → view new ≡ view old
-    cause_same HasEnded old new same = ap view same
-    cause_same Silent old new same = ap view same
-    cause_same Stalled old new same = ap view same
-    cause_same NoMemory old new noted = ap view noted.rest
-    cause_same NoPlace old new same = ap view same
+    cause_same : (number : ℕ) (cause : Cause) (old new : Served I D S N L i d) → IsCauseNoted l number cause old new → view new ≡ view old
+    cause_same number HasEnded old new same = ap view same
+    cause_same number Silent old new noted = ap view noted.rest
+    cause_same number Stalled old new noted = ap view noted.rest
+    cause_same number NoMemory old new noted = ap view noted.rest
+    cause_same number NoPlace old new same = ap view same
 
     moment_carries : (now : ℕ) (one : TurnMoment) (old new : Served I D S N L i d) → IsMoment s n l now one old new
         → Carries (sent_in_moment one) (told_in_moment one) (view old) (view new)
@@ -199,7 +199,7 @@ module _ {C : Type 0} (c : Ghosts C) where
         (placed_same now h.stream effects.accepted old new h.asked h.taken.placed ∙ passes.accepts old.network h.asked (Some (h.stream, peer)) h.came)
     moment_carries now (Refuses peer) old new h = no_more (view old) (view new) (passes.accepts old.network new.network (Some (h.stream, peer)) h.came)
     moment_carries now (Happens event effects goings) old new h = happened_carries now event effects goings old new h
-    moment_carries now (Closes number cause) old new h = no_more (view old) (view new) (ap sockets h.closed.network ∙ cause_same cause old h.told h.noted)
+    moment_carries now (Closes number cause) old new h = no_more (view old) (view new) (ap sockets h.closed.network ∙ cause_same number cause old h.told h.noted)
 
     moments_carry : (now : ℕ) (moments : List TurnMoment) (old new : Served I D S N L i d) → AreMoments s n l now moments old new
         → Carries (flat_map sent_in_moment moments) (flat_map told_in_moment moments) (view old) (view new)

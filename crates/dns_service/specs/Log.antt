@@ -79,12 +79,15 @@ said_of quiet origins counts (note.Opened number peer) =
     by_verdict (line_verdict quiet counts) (opened_line number peer)
 said_of quiet origins counts (note.Closed number) =
     by_verdict (line_verdict quiet counts) (closed_line number)
+said_of quiet origins counts (note.Silent number) = ([], counts)
+said_of quiet origins counts (note.Stalled number) = ([], counts)
 said_of quiet origins counts note.Refused = ([], record counts { refused = counts.refused + 1 })
 said_of quiet origins counts note.OutOfMemory = (line (codes "out of memory"), counts)
 said_of quiet origins counts (note.Device place) = (device_line (slice_get origins place), counts)
 said_of quiet origins counts (note.Begins now) =
     if now == counts.second then ([], counts) else (summary counts, none_in now)
 said_of quiet origins counts note.Ends = ([], counts)
+said_of quiet origins counts note.Unrecorded = (line (codes "recording ended"), counts)
 
 -- The addresses of connections by their numbers, after a note: one that is opened has its peer's.
 abbrev pub addresses_after : Note → List (Option IpAddr) → List (Option IpAddr)
@@ -95,6 +98,9 @@ addresses_after note.OutOfMemory addresses = addresses
 addresses_after (note.Device place) addresses = addresses
 addresses_after (note.Begins now) addresses = addresses
 addresses_after note.Ends addresses = addresses
+addresses_after (note.Silent number) addresses = addresses
+addresses_after (note.Stalled number) addresses = addresses
+addresses_after note.Unrecorded addresses = addresses
 
 -- The transfers that are open by the numbers of connections, after a note: none is on one that is closed.
 abbrev pub transfers_noted : Note → List (Option Transfer) → List (Option Transfer)
@@ -105,6 +111,9 @@ transfers_noted note.OutOfMemory transfers = transfers
 transfers_noted (note.Device place) transfers = transfers
 transfers_noted (note.Begins now) transfers = transfers
 transfers_noted note.Ends transfers = transfers
+transfers_noted (note.Silent number) transfers = transfers
+transfers_noted (note.Stalled number) transfers = transfers
+transfers_noted note.Unrecorded transfers = transfers
 
 -- What a log knows besides what it says: what peers have caused in this second, and of the connections by
 -- their numbers the addresses and the open transfers.

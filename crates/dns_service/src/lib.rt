@@ -18,5 +18,6 @@ mod system;
 mod transfer_lines;
 mod udp;
 mod update_lines;
+mod watched;
 
 pub use server::{ServeOptions, serve};

@@ -14,7 +14,9 @@ ghost use Rattle.dns_service.specs.Verdict.{by_verdict, line_verdict, none_in};
 use crate::slots::set;
 use crate::transfer_lines::{Transfer, add_transfer, is_beside_transfers, keep_transfers};
 use crate::update_lines::{add_event, have_no_line};
-use dns_counters::{Counted, Counters, Counting};
+use crate::watched::Watched;
+use dns_counters::{Counters, Counting};
+use dns_diagnostics::Diagnostics;
 use dns_memory::Heap;
 use dns_names::Name;
 use dns_network::{Note, Observer};
@@ -143,6 +145,8 @@ fn add(
     match note {
         Note::Opened(number, peer) => return add_opened(lines, is_quiet, counts, number, peer),
         Note::Closed(number) => return add_closed(lines, is_quiet, counts, number),
+        Note::Silent(_) => {}
+        Note::Stalled(_) => {}
         Note::Refused => match counts.refused.checked_add(1) {
             Some(refused) => after.refused = refused,
             None => return Err(ErrorKind::Other.into()),
@@ -160,6 +164,7 @@ fn add(
             }
         }
         Note::Ends => {}
+        Note::Unrecorded => writeln!(lines, "recording ended")?,
     }
     Ok(after)
 }
@@ -183,6 +188,8 @@ pub(crate) struct Log<'a, E: Write> {
     pub(crate) has_failed: bool,
     /// What was counted, if it is to be.
     pub(crate) counting: Counting,
+    /// The diagnostic lines of the turn, if there are to be any.
+    pub(crate) diagnostics: &'a mut Diagnostics,
 }
 
 impl<E: Write> Log<'_, E> {
@@ -396,6 +403,7 @@ impl<E: Write> Observer for Log<'_, E> {
     #[inline]
     fn note(&mut self, note: Note) {
         self.counting.note(note);
+        self.diagnostics.note(note);
         if let Note::Ends = note {
             if !self.lines.is_empty() {
                 if let Err(_) = self.write_out() {
@@ -414,6 +422,7 @@ impl<E: Write> Observer for Log<'_, E> {
     #[inline]
     fn observe(&mut self, event: Event<'_>, effects: &Effects) {
         self.counting.observe(event, effects);
+        self.diagnostics.observe(self.origins, event, effects);
         let is_quiet = self.is_quiet;
         if is_quiet {
             return;
@@ -425,10 +434,12 @@ impl<E: Write> Observer for Log<'_, E> {
     }
 }
 
-impl<E: Write> Counted for Log<'_, E> {
-    ghost counts = { λ log. log.counting.counters };
-
+impl<E: Write> Watched for Log<'_, E> {
     fn counters(&self) -> &Counters {
         &self.counting.counters
+    }
+
+    fn diagnostics(&self) -> &Diagnostics {
+        self.diagnostics
     }
 }

@@ -12,9 +12,11 @@ ghost use Rattle.dns_primary.specs.Machine.{Machine};
 use crate::log::{Counts, Log};
 use crate::opening::{Refusal, close_stores, open_primary};
 use crate::sockets::Sockets;
+use crate::watched::Watched;
 use dns_configuration::{DONE, FAILED, File, ZoneSettings, origins_of, read_configuration, tell};
-use dns_counters::{CountLines, Counted, Counting};
+use dns_counters::{CountLines, Counting};
 use dns_devices::{Devices, tell_device};
+use dns_diagnostics::{CheckpointWatch, Diagnostics, LevelFilter, Logger};
 use dns_memory::Heap;
 use dns_names::Name;
 use dns_network::{Edge, Network, Observer, Stream};
@@ -118,14 +120,44 @@ fn pause<R: Clock, S, N: Network<S>>(
     seconds(rt, start, now)
 }
 
-/// Makes the turns of a service, waits after each one in which nothing was done, and tells the counts.
+/// The milliseconds since then, or 0 where the clock fails.
+fn milliseconds<R: Clock>(rt: &R, start: &Instant) -> u64 {
+    match start.elapsed(rt) {
+        Ok(passed) => u64::try_from(passed.as_millis()).unwrap_or(u64::MAX),
+        Err(_) => 0,
+    }
+}
+
+/// When a turn begins, if checkpoints are to be logged.
+fn begin<R: Clock>(rt: &R, checkpoints: &CheckpointWatch) -> Option<Instant> {
+    if !checkpoints.is_on {
+        return None;
+    }
+    Instant::now(rt).ok()
+}
+
+/// Logs the checkpoints that were made in a turn that began then.
+fn log_checkpoints<R: Clock + Logger, I: ZoneIndex, D: ZoneStore>(
+    service: &Service<'_, R>,
+    checkpoints: &mut CheckpointWatch,
+    primary: &Primary<I, D>,
+    begun: Option<Instant>,
+) {
+    if let Some(begun) = begun {
+        let taken = milliseconds(service.rt, &begun);
+        checkpoints.look(service.rt, primary, service.origins, taken);
+    }
+}
+
+/// Makes the turns of a service, waits after each one in which nothing was done, tells the counts, and logs
+/// what is to be logged.
 fn run<
-    R: Clock,
+    R: Clock + Logger,
     I: ZoneIndex,
     D: ZoneStore,
     S: Stream + Drop,
     N: Network<S>,
-    L: Observer + Counted,
+    L: Observer + Watched,
     O: Write,
 >(
     service: &Service<'_, R>,
@@ -141,12 +173,17 @@ fn run<
 {
     let (heap, rt) = (service.heap, service.rt);
     let mut edge: Edge<S> = Edge::new(heap)?;
+    let mut checkpoints = CheckpointWatch::new(heap, service.log_level);
+    checkpoints.look(rt, primary, service.origins, 0);
     let start = Instant::now(rt)?;
     let mut now = 0;
     for turn in 0..service.turns {
         now = poll(rt, &start, network, turn, now);
+        let begun = begin(rt, &checkpoints);
         let is_done = edge.turn(heap, network, primary, notes, now);
-        counts.tell_if_due(heap, notes.counters(), primary, now);
+        log_checkpoints(service, &mut checkpoints, primary, begun);
+        notes.diagnostics().give_out(rt);
+        let _told = counts.tell_if_due(heap, notes.counters(), primary, now);
         now = pause(rt, &start, network, is_done, now);
     }
     Ok(())
@@ -161,8 +198,8 @@ fn tell_unavailable<E: Write>(err: &mut E, address: Option<SocketAddr>) -> io::R
 }
 
 /// What a server has besides a primary and its log: the names of its zones, the addresses on which it
-/// listens, how many turns it makes, whether lines of connections are left out of its log, and each how many
-/// seconds counts are told.
+/// listens, how many turns it makes, whether lines of connections are left out of its log, each how many
+/// seconds counts are told, and of which levels diagnostic lines are logged.
 #[derive(Drop)]
 struct Service<'a, R> {
     heap: Heap,
@@ -172,10 +209,11 @@ struct Service<'a, R> {
     turns: u64,
     is_quiet: bool,
     count_every: u64,
+    log_level: LevelFilter,
 }
 
 /// Listens on the addresses of a service, and makes its turns.
-fn listen<'a, R: Net + Clock, I: ZoneIndex, S: ZoneStore, O: Write, E: Write>(
+fn listen<'a, R: Net + Clock + Logger, I: ZoneIndex, S: ZoneStore, O: Write, E: Write>(
     service: &Service<'a, R>,
     primary: &mut Primary<I, S>,
     out: &mut O,
@@ -205,6 +243,7 @@ fn listen<'a, R: Net + Clock, I: ZoneIndex, S: ZoneStore, O: Write, E: Write>(
     transfers.resize(CONNECTIONS, None)?;
     let counts = Counts::new(0);
     let every = service.count_every;
+    let mut diagnostics = Diagnostics::new(heap, service.log_level);
     let mut log = Log {
         err,
         origins,
@@ -215,6 +254,7 @@ fn listen<'a, R: Net + Clock, I: ZoneIndex, S: ZoneStore, O: Write, E: Write>(
         counts,
         has_failed: false,
         counting: Counting::new(every != 0),
+        diagnostics: &mut diagnostics,
     };
     let mut told = CountLines {
         out,
@@ -230,7 +270,7 @@ fn listen<'a, R: Net + Clock, I: ZoneIndex, S: ZoneStore, O: Write, E: Write>(
 }
 
 /// Tells which versions are shown, listens, and makes the turns of a service.
-fn serve_primary<R: Net + Clock, I: ZoneIndex, S: ZoneStore, O: Write, E: Write>(
+fn serve_primary<R: Net + Clock + Logger, I: ZoneIndex, S: ZoneStore, O: Write, E: Write>(
     service: &Service<'_, R>,
     primary: &mut Primary<I, S>,
     out: &mut O,
@@ -264,8 +304,11 @@ trait Servable<S, O, E> {
             ⊎ ((result ≡ DONE) × is_served self.old service.now err.old self.new err.new) };
 }
 
-impl<R: Net + Clock, I: ZoneIndex, S: ZoneStore, O: Write, E: Write> Servable<Service<'_, R>, O, E>
-    for Primary<I, S> {
+impl<R: Net + Clock + Logger, I: ZoneIndex, S: ZoneStore, O: Write, E: Write> Servable<
+    Service<'_, R>,
+    O,
+    E,
+> for Primary<I, S> {
     ghost has_run = { λ primary after. HasRun (λ m. IsKept primary m) (IsLedTo primary after) };
 
     ghost is_served = { λ primary service err after err_after.
@@ -323,7 +366,14 @@ fn close_primary<D: Sectors + Drop, F: Devices<D>, I: ZoneIndex>(
 }
 
 /// Opens the stores of all zones, serves them and closes their devices. Returns the exit status.
-fn serve_all<D: Sectors + Drop, F: Devices<D>, I: ZoneIndex, R: Net + Clock, O: Write, E: Write>(
+fn serve_all<
+    D: Sectors + Drop,
+    F: Devices<D>,
+    I: ZoneIndex,
+    R: Net + Clock + Logger,
+    O: Write,
+    E: Write,
+>(
     alloc: Global,
     heap: Heap,
     rt: &R,
@@ -352,6 +402,7 @@ fn serve_all<D: Sectors + Drop, F: Devices<D>, I: ZoneIndex, R: Net + Clock, O: 
                 turns: options.turns,
                 is_quiet: options.is_quiet,
                 count_every: options.count_every,
+                log_level: options.log_level,
             };
             let status = serve_as(&mut primary, &service, out, err);
             close_primary(devices, &configuration.zones, primary);
@@ -370,6 +421,8 @@ pub struct ServeOptions {
     pub is_quiet: bool,
     /// Each how many seconds counts are told; with 0 they are not.
     pub count_every: u64,
+    /// Of which levels diagnostic lines are logged.
+    pub log_level: LevelFilter,
     /// Whether a second line says what can be done about a device that is refused.
     pub explain: bool,
 }
@@ -388,7 +441,14 @@ pub struct ServeOptions {
 /// memory was refused. It serves only if each device is intact: its first sector is a root of its zone and of
 /// the sizes of its store, and each sector that is read is its own or zeros. The devices are closed as the
 /// last turn left them, or as they came if one of them is refused, but for how often they were opened.
-pub fn serve<D: Sectors + Drop, F: Devices<D>, I: ZoneIndex, R: Net + Clock, O: Write, E: Write>(
+pub fn serve<
+    D: Sectors + Drop,
+    F: Devices<D>,
+    I: ZoneIndex,
+    R: Net + Clock + Logger,
+    O: Write,
+    E: Write,
+>(
     alloc: Global,
     heap: Heap,
     rt: &R,

@@ -46,7 +46,7 @@ fn code_word(code: u8) -> &'static str
 
 /// The response code of a reply, the low half of its fourth octet (RFC 1035 section 4.1.1).
 #[inline(always)]
-fn code_of(reply: &[u8]) -> u8
+pub(crate) fn code_of(reply: &[u8]) -> u8
     ensures { result ≡ code_of reply.now }
 {
     match reply.get(3) {

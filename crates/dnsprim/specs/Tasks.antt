@@ -89,5 +89,6 @@ options_of words explain = record {
   turns = words.turns;
   is_quiet = words.quiet;
   count_every = words.count_every;
+  log_level = words.log_level;
   explain = explain;
 }

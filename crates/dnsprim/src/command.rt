@@ -1,6 +1,7 @@
 //! The words of the command line.
 
 use clap::{Arg, ArgAction, ArgMatches, Command, Error};
+use log::LevelFilter;
 use std::alloc::Global;
 
 /// What the words ask for.
@@ -26,7 +27,7 @@ pub enum Task<'a> {
     Migrate(&'a str),
     /// `verify CONFIG [ORIGIN] [--every-sector]`
     Verify(Verifying<'a>),
-    /// `serve CONFIG --turns N [--quiet] [--count-every SECONDS]`
+    /// `serve CONFIG --turns N [--quiet] [--count-every SECONDS] [--log-level LEVEL]`
     Serve(Serving<'a>),
     /// `fetch ADDRESS:PORT ORIGIN [--since FILE] [--seconds N]`
     Fetch(Fetching<'a>),
@@ -112,6 +113,8 @@ pub struct Serving<'a> {
     pub quiet: bool,
     /// Each how many seconds counts are printed; with 0 they are not.
     pub count_every: u64,
+    /// Of which levels diagnostic lines are logged.
+    pub log_level: LevelFilter,
 }
 
 /// The words of `fetch`.
@@ -160,6 +163,9 @@ const SECONDS_EXPECTED: &str = "--seconds: a number from 0 to 4294967295 is expe
 
 /// What is expected of `--count-every`.
 const COUNT_EXPECTED: &str = "--count-every: a number from 1 to 4294967295 is expected";
+
+/// What is expected of `--log-level`.
+const LEVEL_EXPECTED: &str = "--log-level: off, error, warn, info, debug or trace is expected";
 
 /// How many seconds `fetch` may take unless it is told another number.
 const FETCH_SECONDS: u64 = 300;
@@ -350,7 +356,20 @@ fn serve_command<'a>(alloc: Global) -> Result<Command<'a>, Error> {
         .help(
             "Prints what was counted each so many seconds: a line for each zone, and one for the server",
         );
-    Ok(command.arg(turns)?.arg(quiet)?.arg(count_every)?)
+    let log_level = Arg::new(alloc, "log-level")
+        .long("log-level")
+        .value_name("LEVEL")
+        .action(ArgAction::Set)
+        .help(
+            "Logs why requests are refused and connections closed, and checkpoints (debug); each request (trace)",
+        );
+    Ok(
+        command
+            .arg(turns)?
+            .arg(quiet)?
+            .arg(count_every)?
+            .arg(log_level)?,
+    )
 }
 
 fn fetch_command<'a>(alloc: Global) -> Result<Command<'a>, Error> {
@@ -498,6 +517,15 @@ fn count_every_of(inner: &ArgMatches<'_>) -> Option<u64> {
     }
 }
 
+/// The levels of diagnostic lines that the words of `serve` want: none without such a word. None if they say
+/// no level.
+fn log_level_of(inner: &ArgMatches<'_>) -> Option<LevelFilter> {
+    match inner.get_str("log-level") {
+        Some(text) => text.parse().ok(),
+        None => Some(LevelFilter::Off),
+    }
+}
+
 /// The words of `serve`.
 fn serve_words<'a>(inner: &ArgMatches<'a>) -> Words<'a> {
     let (Some(config), Some(text)) = (inner.get_str("CONFIG"), inner.get_str("turns")) else {
@@ -509,11 +537,15 @@ fn serve_words<'a>(inner: &ArgMatches<'a>) -> Words<'a> {
     let Some(count_every) = count_every_of(inner) else {
         return Words::Wrong(COUNT_EXPECTED);
     };
+    let Some(log_level) = log_level_of(inner) else {
+        return Words::Wrong(LEVEL_EXPECTED);
+    };
     let serving = Serving {
         config,
         turns,
         quiet: inner.get_flag("quiet"),
         count_every,
+        log_level,
     };
     task_words(inner, Task::Serve(serving))
 }

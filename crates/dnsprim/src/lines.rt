@@ -6,7 +6,7 @@ use std::io::{self, ErrorKind, Write};
 
 /// Standard output or standard error.
 #[derive(Clone, Copy)]
-enum Stream {
+pub enum Stream {
     Output,
     Errors,
 }
@@ -40,7 +40,7 @@ impl<'a> Lines<'a> {
 
 impl Stream {
     /// Whether it takes octets now, or says at once that it doesn't.
-    fn is_ready(self) -> bool {
+    pub fn is_ready(self) -> bool {
         let descriptor = match self {
             Stream::Output => 1,
             Stream::Errors => 2,

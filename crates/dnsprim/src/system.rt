@@ -6,6 +6,7 @@ use crate::command::{
 use crate::commands::Commands;
 use crate::explaining::Explainer;
 use crate::lines::Lines;
+use crate::logged_system::LoggedSystem;
 use crate::tasks::{
     FetchRun, check_file, check_files, diff_file, dump_file, fetch_zone, history_file, init_files,
     load_files, migrate_file, replay_files, serve_file, verify_file,
@@ -208,7 +209,12 @@ impl Commands for System<'_> {
         let rt = self.rt;
         let (out, err) = (Lines::to_output(rt), Lines::to_errors(rt));
         let mut run = self.run(explain, Disk(rt), out, err);
-        let status = serve_file::<_, Device, _, _, _, _>(rt, &mut self.files(), &mut run, words)?;
+        let logged = LoggedSystem {
+            rt: *rt,
+            level: words.log_level,
+        };
+        let mut files = self.files();
+        let status = serve_file::<_, Device, _, _, _, _>(&logged, &mut files, &mut run, words)?;
         if explain && status == REFUSED {
             self.explainer().configuration(words.config)?;
         }

@@ -28,6 +28,7 @@ use dns_commands::{
 };
 use dns_configuration::File;
 use dns_devices::{Devices, DevicesToRead, NewDevices};
+use dns_diagnostics::Logger;
 use dns_fetch::{Servers, WaitingStream, Watch, fetch};
 use dns_memory::Heap;
 use dns_replay::ScriptDevice;
@@ -278,12 +279,14 @@ pub fn verify_file<N: Inputs, D: Sectors + Drop, F: DevicesToRead<D>, W: Write, 
 }
 
 /// Serves, and returns the exit status.
-pub fn serve_file<N: Inputs, D: Sectors + Drop, F: Devices<D>, R: Net + Clock, W: Write, E: Write>(
-    rt: &R,
-    inputs: &mut N,
-    run: &mut Run<F, W, E>,
-    words: Serving<'_>,
-) -> io::Result<u8>
+pub fn serve_file<
+    N: Inputs,
+    D: Sectors + Drop,
+    F: Devices<D>,
+    R: Net + Clock + Logger,
+    W: Write,
+    E: Write,
+>(rt: &R, inputs: &mut N, run: &mut Run<F, W, E>, words: Serving<'_>) -> io::Result<u8>
     ensures { Calls (N.reads inputs.old) (N.reads inputs.new) (λ reads.
         ReadsAlone reads words.entry.config.now result (λ config status.
         Calls (F.calls run.old.devices) (F.calls run.new.devices) (λ calls.
@@ -296,6 +299,7 @@ pub fn serve_file<N: Inputs, D: Sectors + Drop, F: Devices<D>, R: Net + Clock, W
         turns: words.turns,
         is_quiet: words.quiet,
         count_every: words.count_every,
+        log_level: words.log_level,
         explain: run.explain,
     };
     Ok(serve::<D, F, Index, R, W, E>(

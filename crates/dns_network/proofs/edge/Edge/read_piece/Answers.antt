@@ -104,9 +104,9 @@ returns-then-is_silent-clause-reads g c =
     let opened = open_with (IsSilent now) (slice_get there number) silent in
     let ended = served_by c.close-then-is_silent.new.turn c.close-then-is_silent.new.self in
     let read = standing_by c.args.turn.now there in
-    let taken = standing_by c.args.turn.now (places_of c.next_message.new.self) in
-    let closed = closes g.S.Stream g.N.Network g.L.Observer now number Silent read read ended
-    silent refl (closed_from g.L.Observer number there taken ended gone c.close-then-is_silent.ensures.closed) in
+    let told = standing c.args.turn.now.primary.now c.args.turn.now.network.now c.note-then-is_silent.new.self (places_of c.next_message.new.self) in
+    let closed = closes g.S.Stream g.N.Network g.L.Observer now number Silent read (record read { notes = c.note-then-is_silent.new.self }) ended
+    silent (record { rest = refl; noted = c.note-then-is_silent.ensures }) (closed_from g.L.Observer number there told ended gone c.close-then-is_silent.ensures.closed) in
     let (moments, reads, idle) = read_then g.S.Stream g.N.Network g.L.Observer now number c.in-Ok.moved (Closes number Silent ∷ []) c.args.turn.now.primary.now c.args.turn.now.network.now c.args.turn.now.notes.now
     here there ended c.in_default-moved.not-Ended (c.in-Ok.ensures.moved now) (inl opened) (ended, closed, refl) (inr (inr refl)) in (
       moments,

@@ -67,7 +67,8 @@ returns-then-is_stalled-clause-part g c =
     let opened = left_open (slice_get here number) left in
     let written = standing_by turn there in
     let new = served_by c.close-then-is_stalled.new.turn c.close-then-is_stalled.new.self in
-    let closed = closes g.S.Stream g.N.Network g.L.Observer now number Stalled written written new (c.is_stalled.ensures.0 c.if-is_stalled.true) refl c.close-then-is_stalled.ensures.closed in (
+    let closed = closes g.S.Stream g.N.Network g.L.Observer now number Stalled written (record written { notes = c.note.new.self }) new (c.is_stalled.ensures.0 c.if-is_stalled.true)
+    (record { rest = refl; noted = c.note.ensures }) c.close-then-is_stalled.ensures.closed in (
       Moves number c.write-moved.result ∷ Closes number Stalled ∷ [],
       record {
         are = (

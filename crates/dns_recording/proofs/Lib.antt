@@ -1,0 +1,4 @@
+mod Handed
+pub mod Recorded
+mod Started
+mod Taken

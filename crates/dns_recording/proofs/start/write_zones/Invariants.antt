@@ -1,0 +1,11 @@
+use Rattle.std.specs.Prelude.{take}
+use Rattle.std.specs.Io.KnownBytes.{Appends}
+use Rattle.dns_primary.specs.Keeps.{IsKept}
+use Rattle.dns_primary.specs.Machine.{Machine}
+use Rattle.dns_recording.specs.Script.{zone_comments}
+use Rattle.dns_recording.proofs.start.write_zones.Given as goal
+
+abbrev pub invariant-loop-place : goal.invariant-loop-place
+invariant-loop-place g l =
+    (m : Machine) → IsKept l.fn.primary m
+    → Appends (g.W.Write.contents l.fn.out) (g.W.Write.contents l.out) (zone_comments (take l.place l.fn.origins) m.zones)
