@@ -7,7 +7,7 @@ _dnsprim_origins() { sed -n 's/^[[:blank:]]*origin[[:blank:]]*=[[:blank:]]*"\([[
 _dnsprim_options() {
     case $1 in
         load) echo --dry-run --explain --help ;;
-        serve) echo --turns --quiet --count-every --log-level --explain --help ;;
+        serve) echo --turns --quiet --count-every --log-level --record --explain --help ;;
         fetch) echo --since --seconds --explain --help ;;
         check) echo --config --explain --help ;;
         dump) echo --serial --explain --help ;;
@@ -23,7 +23,7 @@ _dnsprim_arguments() {
     local at
     for ((at = 2; at < COMP_CWORD; at++)); do
         case ${COMP_WORDS[at]} in
-            --turns | --since | --seconds | --serial | --count-every | --log-level)
+            --turns | --since | --seconds | --serial | --count-every | --log-level | --record)
                 [[ ${COMP_WORDS[at + 1]} != = ]] || ((at++))
                 ((at++))
                 ;;
@@ -37,7 +37,7 @@ _dnsprim_arguments() {
 _dnsprim_words() {
     local commands="check diff dump fetch help history init load migrate replay serve verify"
     case $previous,$current in
-        --since,*) echo :files && return ;;
+        --since,* | --record,*) echo :files && return ;;
         --turns,*) echo unlimited && return ;;
         --log-level,*) echo off error warn info debug trace && return ;;
         --seconds,* | --serial,* | --count-every,*) return ;;

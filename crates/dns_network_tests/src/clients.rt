@@ -7,6 +7,9 @@ use std::io::{self, ErrorKind, Read, Write};
 use std::net::{Ipv4Addr, Shutdown, SocketAddr, TcpStream, UdpSocket};
 use std::time::Duration;
 
+/// How many milliseconds clients wait after they have acted.
+const SETTLING: u64 = 50;
+
 /// What clients do once, after a line of the log that begins so.
 #[derive(Clone, Copy)]
 pub(crate) struct Act {
@@ -34,6 +37,8 @@ pub(crate) struct Clients<'a> {
     /// The last line of it.
     line: Vec<u8, Heap>,
     datagrams: UdpSocket,
+    /// A socket to which nobody sends.
+    silent: UdpSocket,
     streams: Vec<TcpStream, Heap>,
 }
 
@@ -48,6 +53,8 @@ impl<'a> Clients<'a> {
         let free = UdpSocket::bind(rt, any)?;
         let datagrams = UdpSocket::bind(rt, any)?;
         datagrams.set_nonblocking(true)?;
+        let silent = UdpSocket::bind(rt, any)?;
+        silent.set_read_timeout(Some(Duration::from_millis(SETTLING)))?;
         Ok(Clients {
             rt,
             heap,
@@ -57,6 +64,7 @@ impl<'a> Clients<'a> {
             log: Vec::new(heap),
             line: Vec::new(heap),
             datagrams,
+            silent,
             streams: Vec::new(heap),
         })
     }
@@ -104,8 +112,15 @@ impl<'a> Clients<'a> {
             for &(number, octets) in act.written {
                 self.write_on(number, octets)?;
             }
+            self.settle();
         }
         Ok(())
+    }
+
+    /// Waits, so that what was sent has come: a busy system may hand it on later, and a server of few turns
+    /// would miss it.
+    pub(crate) fn settle(&self) {
+        let _none = self.silent.recv_from(&mut [0; 1]);
     }
 
     /// Whether exactly these octets came on the connection that was opened as the n-th from 0, up to its end.

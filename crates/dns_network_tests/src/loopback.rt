@@ -9,7 +9,7 @@ use dns_devices::Devices;
 use dns_diagnostics::LevelFilter;
 use dns_memory::{Heap, heap};
 use dns_sectors::{DeviceError, MemorySectors, OpenDeviceError, Sector, Sectors};
-use dns_service::{ServeOptions, serve};
+use dns_service::{Host, ServeOptions, Streams, serve};
 use dns_zone::RecordList;
 use std::io;
 use std::test::Fail;
@@ -268,8 +268,14 @@ fn configuration(text: &str) -> File<'_> {
     }
 }
 
-/// Has a server run for so many turns with these clients, and gives its exit status.
-fn served(rt: &HostRuntime, heap: Heap, clients: &mut Clients<'_>, turns: u32) -> io::Result<u8> {
+/// Serves these clients for so many turns. Returns the exit status, or `FAILED` if something was written
+/// besides the log, and the clients.
+fn served<'a>(
+    rt: &HostRuntime,
+    heap: Heap,
+    clients: Clients<'a>,
+    turns: u32,
+) -> io::Result<(u8, Clients<'a>)> {
     let server = clients.server;
     let text = format!(in heap; "listen = \"{server}\"\n{SETTINGS}")?;
     let config = configuration(&text);
@@ -280,20 +286,25 @@ fn served(rt: &HostRuntime, heap: Heap, clients: &mut Clients<'_>, turns: u32) -
         is_quiet: false,
         count_every: 0,
         log_level: LevelFilter::Off,
+        is_recorded: false,
         explain: false,
     };
-    let mut out = Vec::new(alloc);
-    let status = serve::<MemorySectors, _, RecordList, _, _, _>(
-        alloc,
-        heap,
-        rt,
+    let host = Host { alloc, heap, rt };
+    let mut streams = Streams {
+        out: Vec::new(alloc),
+        err: clients,
+        record: Vec::new(alloc),
+    };
+    let status = serve::<MemorySectors, _, RecordList, _, _, _, _>(
+        &host,
         &mut devices,
         &config,
         options,
-        &mut out,
-        clients,
+        &mut streams,
     );
-    Ok(if out.is_empty() { status } else { FAILED })
+    let Streams { out, err, record } = streams;
+    let is_silent = out.is_empty() && record.is_empty();
+    Ok((if is_silent { status } else { FAILED }, err))
 }
 
 /// Whether the log is what a run says.
@@ -303,9 +314,10 @@ fn has_log(heap: Heap, clients: &Clients<'_>, log: &str) -> io::Result<bool> {
     Ok(clients.log.as_slice() == log.as_bytes())
 }
 
-/// Whether a run with these clients is as it says.
-fn is_so(rt: &HostRuntime, heap: Heap, clients: &mut Clients<'_>, run: &Run) -> io::Result<bool> {
-    let mut is_so = served(rt, heap, clients, run.turns)? == DONE;
+/// Whether what these clients got in a run is as it says.
+fn have_seen(heap: Heap, clients: &mut Clients<'_>, run: &Run) -> io::Result<bool> {
+    let mut is_so = true;
+    clients.settle();
     for octets in run.received {
         is_so = clients.has_received(octets)? && is_so;
     }
@@ -318,10 +330,11 @@ fn is_so(rt: &HostRuntime, heap: Heap, clients: &mut Clients<'_>, run: &Run) -> 
 
 /// Whether a run is as it says.
 fn holds(rt: &HostRuntime, heap: Heap, run: &Run) -> io::Result<bool> {
-    let mut clients = Clients::new(rt, heap, run.acts)?;
-    let told = is_so(rt, heap, &mut clients, run);
+    let clients = Clients::new(rt, heap, run.acts)?;
+    let (status, mut clients) = served(rt, heap, clients, run.turns)?;
+    let have_seen = have_seen(heap, &mut clients, run);
     drop(clients);
-    told
+    Ok(have_seen? && status == DONE)
 }
 
 #[test]
@@ -343,27 +356,31 @@ fn refuses(rt: &HostRuntime, heap: Heap, root: &'static [u8], told: &str) -> io:
     let text = format!(in heap; "listen = \"127.0.0.1:5300\"\n{SETTINGS}")?;
     let config = configuration(&text);
     let root = Some(root);
+    let alloc = rt.alloc();
     let mut devices = InMemory { heap, root };
-    let mut err = Vec::new(rt.alloc());
     let options = ServeOptions {
         turns: 1,
         is_quiet: false,
         count_every: 0,
         log_level: LevelFilter::Off,
+        is_recorded: true,
         explain: true,
     };
-    let mut out = Vec::new(rt.alloc());
-    let status = serve::<MemorySectors, _, RecordList, _, _, _>(
-        rt.alloc(),
-        heap,
-        rt,
+    let host = Host { alloc, heap, rt };
+    let mut streams = Streams {
+        out: Vec::new(alloc),
+        err: Vec::new(alloc),
+        record: Vec::new(alloc),
+    };
+    let status = serve::<MemorySectors, _, RecordList, _, _, _, _>(
+        &host,
         &mut devices,
         &config,
         options,
-        &mut out,
-        &mut err,
+        &mut streams,
     );
-    Ok(status == REFUSED && out.is_empty() && err.as_slice() == told.as_bytes())
+    let is_silent = streams.out.is_empty() && streams.record.is_empty();
+    Ok(status == REFUSED && is_silent && streams.err.as_slice() == told.as_bytes())
 }
 
 #[test]

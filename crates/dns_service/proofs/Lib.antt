@@ -1,6 +1,7 @@
 mod Accepted
 mod Brought
 mod Carried
+pub mod Counted
 mod Each
 mod Headers
 mod InTurns
@@ -9,6 +10,7 @@ pub mod Logged
 mod Moved
 mod Observed
 mod Passed
+pub mod Recorded
 pub mod Said
 pub mod Served
 pub mod Turned

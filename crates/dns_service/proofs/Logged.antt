@@ -10,24 +10,17 @@ use Rattle.dns_zone.specs.Zone.{Zone}
 use Rattle.dns_versions.specs.Held.{shown_zone}
 use Rattle.dns_primary.specs.Fresh.{IsShown}
 use Rattle.dns_primary.specs.Machine.{Machine, ZoneState, kept_of}
-use Rattle.dns_network.specs.declared.stream.Stream as stream
-use Rattle.dns_zone.specs.declared.index.ZoneIndex as index
-use Rattle.dns_store.specs.declared.zone_store.ZoneStore as store
 use Rattle.dns_primary.specs.Step.{Event}
 use Rattle.dns_primary.specs.declared.event.Effects.{Effects}
-use Rattle.dns_primary.specs.declared.primary.Primary.{Primary}
-use Rattle.dns_primary.specs.Keeps.{IsKept}
-use Rattle.dns_network.specs.declared.network.Network.{Ghosts}
 use Rattle.dns_network.specs.declared.network.Observer as notes
 use Rattle.dns_network.specs.declared.network.Note.{Note}
 use Rattle.dns_network.specs.Notes.{AreReported, IsReported, OfEvent, OfNote, Report}
-use Rattle.dns_network.specs.Reports.{AreReportsOfTurns}
-use Rattle.dns_network.specs.Turn.{TurnMoment}
-use Rattle.dns_network.proofs.Noted.{Took}
 use Rattle.dns_service.specs.Log.{IsLogged, IsLogOf, IsSaid, Known, Logged, listening_line, listening_lines, log_of, nothing_known, report_said, says, zone_line, zone_lines}
-use Rattle.dns_network.specs.Left.{RestLaw}
-use Rattle.dns_service.specs.ServedTurns.{HasTurned, IsLedTo, IsServedOn, OfRun}
-use Rattle.dns_service.proofs.Turned.{has_been_turned}
+use Rattle.dns_recording.specs.Script.{zone_comments}
+use Rattle.dns_service.specs.Counting.{AreCountsOf}
+use Rattle.dns_service.specs.ServedTurns.{HasTurned, OfRun}
+use Rattle.dns_service.specs.Telling.{AreScripted, AreTold, Telling, Texts}
+use Rattle.dns_service.proofs.Turned.{turned_so}
 
 -- What is written out comes after what was said.
 pub says_written : (before written after : Option (List ℕ)) (lines text : List ℕ) → Appends before (append_known written lines) text → Appends written after lines → Appends before after text
@@ -87,35 +80,44 @@ module _ {L M : Type 0} (l : notes.Ghosts L) (mark : L → M) (names : L → Lis
   stays [] old new same = ap mark (sym same)
   stays (one ∷ rest) old new (between, here, pending) = sym (taken_so old one between here).0 ∙ stays rest between new pending
 
-  -- The log of turns, after the lines of the addresses, once all of it is written out.
-  turns_logged : (addresses : List SocketAddr) (err out err_after : Option (List ℕ)) (old new : L) (turns : List (List TurnMoment)) → Appends err (state old).written (listening_lines addresses)
+  -- The log of reports, after the lines of the addresses, once all of it is written out.
+  told_logged : (addresses : List SocketAddr) (err out err_after : Option (List ℕ)) (old new : L) (told : List Report) → Appends err (state old).written (listening_lines addresses)
       → BeginsLog (state old) → failed new ≡ false → Appends (state new).written out (state new).lines
-      → (mark old ≡ mark new → err_after ≡ out) → Took l (AreReportsOfTurns turns) old new → IsLogOf [] (hushed old) (names old) addresses err err_after turns
-  turns_logged addresses err out err_after old new turns said begins whole written at took =
-      let noted = reports_logged (names old) (hushed old) took.0 old new refl refl took.2 whole in
-      let more = log_of (hushed old) (names old) nothing_known took.0 in
+      → (mark old ≡ mark new → err_after ≡ out) → AreReported l told old new → IsLogOf [] (hushed old) (names old) addresses err err_after told
+  told_logged addresses err out err_after old new told said begins whole written at handed =
+      let noted = reports_logged (names old) (hushed old) told old new refl refl handed whole in
+      let more = log_of (hushed old) (names old) nothing_known told in
       let begun : Appends (append_known (state old).written []) (says (state new)) more =
       subst (λ (x : List ℕ). Appends (append_known (state old).written x) (says (state new)) more) begins.none
-      (subst (λ (x : Known). Appends (says (state old)) (says (state new)) (log_of (hushed old) (names old) x took.0)) begins.fresh noted.1) in
-      let all : Appends (state old).written out more = says_written (state old).written (state new).written out (state new).lines more (says_all (state old).written (says (state new)) more begun) written in (
-        took.0,
-        took.1,
-        subst (λ (x : Option (List ℕ)). Appends err x (listening_lines addresses ++ more)) (sym (at (stays took.0 old new took.2)))
-            (Appends-trans err (state old).written out (listening_lines addresses) more said all),
-      )
+      (subst (λ (x : Known). Appends (says (state old)) (says (state new)) (log_of (hushed old) (names old) x told)) begins.fresh noted.1) in
+      let all : Appends (state old).written out more = says_written (state old).written (state new).written out (state new).lines more (says_all (state old).written (says (state new)) more begun) written in
+      subst (λ (x : Option (List ℕ)). Appends err x (listening_lines addresses ++ more)) (sym (at (stays told old new handed)))
+      (Appends-trans err (state old).written out (listening_lines addresses) more said all)
 
--- A server listened and made its turns, no line failed, and all lines are written out.
-pub has_listened : {I D S N L M : Type 0} {i : index.Ghosts I} {d : store.Ghosts D} {s : stream.Ghosts S} {n : Ghosts N S} {l : notes.Ghosts L}
-    {count : ℕ} {old new : Primary I D i d} {network network' : N} {first last : L} {err_after : Option (List ℕ)} → RestLaw d → IsServedOn s n l count old network first new network' last
+-- A server listened and made its turns, which were recorded, no line failed, and all lines are written out.
+pub has_listened : {L M : Type 0} {l : notes.Ghosts L} {count : ℕ} {after : OfRun} {keeps : Machine → Type 0} {first last : L} {script script_after err_after out_before out_after out_end : Option (List ℕ)} (t : Telling)
+    → HasTurned count (λ turns m. AreScripted l t.is_recorded (zone_comments t.origins m.zones) script script_after turns first last × AreCountsOf t.count_every t.origins m turns out_before out_after) keeps after
     → (mark : L → M) (names : L → List Labels) (hushed : L → Bool) (failed : L → Bool) (state : L → Logged)
     → ((old : L) (one : Note) (new : L) → l.takes old one new → LogsOn mark names hushed failed state (OfNote one) old new)
     → ((old : L) (event : Event) (effects : Effects) (new : L) → l.observes old event effects new → LogsOn mark names hushed failed state (OfEvent event effects) old new)
-    → (addresses : List SocketAddr) (err out : Option (List ℕ)) → Appends err (state first).written (listening_lines addresses) → BeginsLog (state first)
-    → failed last ≡ false → Appends (state last).written out (state last).lines → (mark first ≡ mark last → err_after ≡ out)
-    → HasTurned count (λ turns _. IsLogOf [] (hushed first) (names first) addresses err err_after turns) (λ m. IsKept old m) (IsLedTo old new)
-has_listened {l = l} {first = first} {last = last} {err_after = err_after} law is mark names hushed failed state taken_so observed_so addresses err out said begins whole written at =
-    has_been_turned law (λ (turns : List (List TurnMoment)). IsLogOf [] (hushed first) (names first) addresses err err_after turns) is
-    (λ turns took. turns_logged l mark names hushed failed state (reported_so l mark names hushed failed state taken_so observed_so) addresses err out err_after first last turns said begins whole written at took)
+    → names first ≡ t.origins → hushed first ≡ t.is_quiet
+    → (err out : Option (List ℕ)) → Appends err (state first).written (listening_lines t.addresses) → BeginsLog (state first)
+    → failed last ≡ false → Appends (state last).written out (state last).lines → (mark first ≡ mark last → err_after ≡ out) → out_end ≡ out_after
+    → HasTurned count (λ turns m. AreTold t [] m turns (record { output = out_before; log = err; script = script }) (record { output = out_end; log = err_after; script = script_after })) keeps after
+has_listened {l = l} {keeps = keeps} {first = first} {last = last} {script = script} {script_after = script_after} {err_after = err_after} {out_before = out_before} {out_after = out_after} {out_end = out_end} t is mark names hushed failed state taken_so observed_so named quiet err out said begins whole written at ended =
+    turned_so (λ turns m. AreScripted l t.is_recorded (zone_comments t.origins m.zones) script script_after turns first last × AreCountsOf t.count_every t.origins m turns out_before out_after)
+    (λ turns m. AreTold t [] m turns (record { output = out_before; log = err; script = script }) (record { output = out_end; log = err_after; script = script_after })) keeps is
+    (λ turns m kept both.
+    let are = both.0 in
+    let so = told_logged l mark names hushed failed state (reported_so l mark names hushed failed state taken_so observed_so) t.addresses err out err_after first last are.told said begins whole written at are.handed in
+    record {
+      reports = are.reports;
+      of_turns = are.of_turns;
+      told = are.told;
+      script = are.written;
+      log = subst (λ (x : Bool). IsLogOf [] x t.origins t.addresses err err_after are.told) quiet (subst (λ (x : List Labels). IsLogOf [] (hushed first) x t.addresses err err_after are.told) named so);
+      counts = subst (λ (x : Option (List ℕ)). AreCountsOf t.count_every t.origins m turns out_before x) (sym ended) both.1;
+    })
 
 -- The line of one address more was written.
 listening_push : (addresses : List SocketAddr) (address : SocketAddr) → listening_lines (addresses ++ address ∷ []) ≡ listening_lines addresses ++ listening_line address
@@ -150,22 +152,24 @@ lines_more origins other zones place lt =
     ap (λ (x : List Labels). zone_lines x zones) (take_more origins place other lt) ∙ lines_push (take place origins) here zones
     ∙ ap (λ (x : ℕ). zone_lines (take place origins) zones ++ line_at here (slice_get zones x)) (length-take-le place origins (omega (arith, lt)))
 
--- The log of turns, after the lines of the zones.
-pub after_zones : {E : Type 0} (r : Result ℕ E) (quiet : Bool) (origins : List Labels) (addresses : List SocketAddr) (count : ℕ) (err between err_after : Option (List ℕ)) (keeps : Machine → Type 0) (after : OfRun)
-    → ((m : Machine) → keeps m → Appends err between (zone_lines origins m.zones))
-    → IfOk r (λ status. (status ≡ 3) ⊎ ((status ≡ 0) × HasTurned count (λ turns _. IsLogOf [] quiet origins addresses between err_after turns) keeps after))
-    → IfOk r (λ status. (status ≡ 3) ⊎ ((status ≡ 0) × HasTurned count (λ turns m. IsLogOf (zone_lines origins m.zones) quiet origins addresses err err_after turns) keeps after))
-after_zones (Err e) quiet origins addresses count err between err_after keeps after said h = tt
-after_zones (Ok status) quiet origins addresses count err between err_after keeps after said (inl failed) = inl failed
-after_zones (Ok status) quiet origins addresses count err between err_after keeps after said (inr (done, turned)) = inr (
+-- What is told of turns, after the lines of the zones.
+pub after_zones : {E : Type 0} (r : Result ℕ E) (t : Telling) (count : ℕ) (err between output script : Option (List ℕ)) (texts : Texts) (keeps : Machine → Type 0) (after : OfRun)
+    → ((m : Machine) → keeps m → Appends err between (zone_lines t.origins m.zones))
+    → IfOk r (λ status. (status ≡ 3) ⊎ ((status ≡ 0) × HasTurned count (λ turns m. AreTold t [] m turns (record { output = output; log = between; script = script }) texts) keeps after))
+    → IfOk r (λ status. (status ≡ 3) ⊎ ((status ≡ 0) × HasTurned count (λ turns m. AreTold t (zone_lines t.origins m.zones) m turns (record { output = output; log = err; script = script }) texts) keeps after))
+after_zones (Err e) t count err between output script texts keeps after said h = tt
+after_zones (Ok status) t count err between output script texts keeps after said (inl failed) = inl failed
+after_zones (Ok status) t count err between output script texts keeps after said (inr (done, turned)) = inr (
   done,
-  (
-    turned.0,
-    turned.1,
-    λ m kept.
-        let is = turned.2 m kept in
-        ((is.0.0, is.0.1, Appends-trans err between err_after (zone_lines origins m.zones) (listening_lines addresses ++ log_of quiet origins nothing_known is.0.0) (said m kept) is.0.2), is.1),
-  ),
+  turned_so (λ turns m. AreTold t [] m turns (record { output = output; log = between; script = script }) texts) (λ turns m. AreTold t (zone_lines t.origins m.zones) m turns (record { output = output; log = err; script = script }) texts) keeps turned
+      (λ turns m kept are. record {
+        reports = are.reports;
+        of_turns = are.of_turns;
+        told = are.told;
+        script = are.script;
+        counts = are.counts;
+        log = Appends-trans err between texts.log (zone_lines t.origins m.zones) (listening_lines t.addresses ++ log_of t.is_quiet t.origins nothing_known are.told) (said m kept) are.log;
+      }),
 )
 
 -- The line of one zone more was written, or there is no such zone.

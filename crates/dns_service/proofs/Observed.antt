@@ -5,7 +5,10 @@ use Rattle.std.specs.declared.net.ip_addr.IpAddr.{IpAddr}
 use Rattle.dns_names.specs.Name.{Labels}
 use Rattle.dns_primary.specs.Step.{Event}
 use Rattle.dns_primary.specs.declared.event.Effects.{Effects}
-use Rattle.dns_network.specs.Notes.{OfEvent}
+use Rattle.dns_network.specs.Notes.{OfEvent, Report}
+use Rattle.dns_counters.specs.Counters.{counted}
+use Rattle.dns_counters.specs.declared.counting.Counting.{Counting}
+use Rattle.dns_service.specs.Counting.{counting_after}
 use Rattle.dns_service.specs.declared.log.Counts.{Counts}
 use Rattle.dns_service.specs.declared.transfer_lines.Transfer.{Transfer}
 use Rattle.dns_service.specs.Log.{IsSaid, Logged, Said, logged, observation_said, report_said, says}
@@ -60,3 +63,7 @@ written_said said log written written_after lines lines_after counts counts_afte
       (all_written (says log) written_after said.text (says_written (says log) written written_after lines said.text is.text out));
   known = (λ i. record { counts = counted i; addresses = addressed i; transfers = opened i }) ∙ is.known;
 }
+
+-- What counts a report, by its parts.
+pub counted_once : (old new : Counting) (one : Report) → new.is_on ≡ old.is_on → new.counters ≡ counted old.is_on old.counters one → new ≡ counting_after old one
+counted_once old new one on counts = λ i. record { counters = counts i; is_on = on i }

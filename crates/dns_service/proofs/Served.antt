@@ -1,5 +1,5 @@
 -- How a server ends, by what its parts told.
-use Rattle.std.proofs.Common.{◌≡◌, ℕ, true, false, zero, suc, inl, inr, List, [], ◌∷◌, ◌++◌, map, Option, Result, Ok, Err, IfOk, refl, arith, subst, length}
+use Rattle.std.proofs.Common.{◌≡◌, ℕ, true, false, zero, suc, inl, inr, List, [], ◌∷◌, ◌++◌, map, Result, Ok, Err, IfOk, refl, arith, subst, length}
 use Rattle.std.specs.Prelude.{◌⊎◌, MatchResult}
 use Rattle.std.specs.Option.{option_copied}
 use Rattle.std.specs.Result.{IsErr, result_unwrap_or}
@@ -38,11 +38,12 @@ use Rattle.dns_primary.proofs.StaysSet.{set_lasts}
 use Rattle.dns_network.specs.Left.{AreLeftFrom, OpensInRun}
 use Rattle.dns_network.specs.Turn.{TurnMoment}
 use Rattle.dns_network.specs.Runs.{IsStepOf, Told, told_by}
-use Rattle.dns_service.specs.Log.{IsLogOf, zone_lines}
+use Rattle.dns_service.specs.Log.{zone_lines}
 use Rattle.dns_service.specs.declared.server.ServeOptions.{ServeOptions}
 use Rattle.dns_service.specs.Opening.{AreIntact, IsNotServed, IsOpenedAs, IsServed, closings}
-use Rattle.dns_service.specs.Serve.{AreServedFrom, HaveServed, IsRefusalTold, IsServedFor, IsServedSomehow, IsServingTried, ServingEnds}
+use Rattle.dns_service.specs.Serve.{AreServedFrom, HaveServed, IsRefusalTold, IsServedFor, IsServedSomehow, IsServingTried, ServingEnds, telling_for}
 use Rattle.dns_service.specs.ServedTurns.{HasRun, HasTurned, HaveRun, IsLedTo}
+use Rattle.dns_service.specs.Telling.{AreTold, Texts}
 
 pub at_ok : {A E : Type 0} (r : Result A E) (P : A → Type 0) (x : A) → r ≡ Ok x → IfOk r P → P x
 at_ok {A = A} {E = E} r P x e h = subst (λ (s : Result A E). IfOk s P) e h
@@ -51,8 +52,8 @@ pub failed_with : {A E : Type 0} (P : A → Type 0) (Q : E → Type 0) (r : Resu
 failed_with P Q (Ok x) is q = absurd (let both : false ≡ true = is in cc)
 failed_with P Q (Err e) is q = q e
 
-pub serving_failed : {D : Type 0} (g : Ghosts D) (calls : List (DeviceCall D)) (config : File) (options : ServeOptions) (err err_after : Option (List ℕ)) → IsServingTried g calls config → ServingEnds g calls config options err err_after 3
-serving_failed g calls config options err err_after tried = record {
+pub serving_failed : {D : Type 0} (g : Ghosts D) (calls : List (DeviceCall D)) (config : File) (options : ServeOptions) (before after : Texts) → IsServingTried g calls config → ServingEnds g calls config options before after 3
+serving_failed g calls config options before after tried = record {
   done = λ e. absurd (omega (arith, e));
   refused = λ e. absurd (omega (arith, e));
   others = inr refl;
@@ -60,8 +61,8 @@ serving_failed g calls config options err err_after tried = record {
 }
 
 -- The configuration is refused.
-pub configuration_refused : {D : Type 0} (g : Ghosts D) (config : File) (options : ServeOptions) (fault : Fault) (err err_after : Option (List ℕ)) → HoldsConfiguration (option_copied config.octets) (Err fault) → Appends err err_after (line (fault_text config.path.now fault)) → ServingEnds g [] config options err err_after 1
-configuration_refused g config options fault err err_after holds said = record {
+pub configuration_refused : {D : Type 0} (g : Ghosts D) (config : File) (options : ServeOptions) (fault : Fault) (before after : Texts) → HoldsConfiguration (option_copied config.octets) (Err fault) → Appends before.log after.log (line (fault_text config.path.now fault)) → ServingEnds g [] config options before after 1
+configuration_refused g config options fault before after holds said = record {
   done = λ e. absurd (omega (arith, e));
   refused = λ _. (fault_text config.path.now fault, said, inl (fault, holds, refl));
   others = inl (omega arith);
@@ -132,8 +133,8 @@ module _ {D I : Type 0} (g : Ghosts D) {i : index.Ghosts I} {s : store.Ghosts (K
       )
 
   -- All turns were made.
-  pub served_for : (options : ServeOptions) (err err_after : Option (List ℕ)) → HasTurned options.turns (λ turns m. IsLogOf (zone_lines (origins_of c.zones.items) m.zones) options.is_quiet (origins_of c.zones.items) c.listen.items err err_after turns) (λ m. IsKept old m) (IsLedTo old new) → IsServedFor g (opening ++ closings (devices_of new) c.zones.items) c options err err_after
-  served_for options err err_after (turns, many, run) = record {
+  pub served_for : (options : ServeOptions) (before after : Texts) → HasTurned options.turns (λ turns m. AreTold (telling_for c options) (zone_lines (origins_of c.zones.items) m.zones) m turns before after) (λ m. IsKept old m) (IsLedTo old new) → IsServedFor g (opening ++ closings (devices_of new) c.zones.items) c options before after
+  served_for options before after (turns, many, run) = record {
     opening = opening;
     back = devices_of new;
     came = refl;
@@ -186,14 +187,14 @@ all_intact (suc n) (a ∷ apexes) (s ∷ settings) (d ∷ devices) [] pending co
 all_intact (suc n) (a ∷ apexes) (s ∷ settings) (d ∷ devices) (z ∷ zones) [] count named many h = absurd h
 
 -- All turns were made, or the address could not be had.
-pub served : {D : Type 0} (g : Ghosts D) (calls : List (DeviceCall D)) (config : File) (c : Configuration) (options : ServeOptions) (err err_after : Option (List ℕ)) (status : ℕ) → HoldsConfiguration (option_copied config.octets) (Ok c) → IsServedSomehow g calls c.zones.items → (status ≡ 3) ⊎ ((status ≡ 0) × IsServedFor g calls c options err err_after) → ServingEnds g calls config options err err_after status
-served g calls config c options err err_after status holds somehow (inr (none, is)) = record {
+pub served : {D : Type 0} (g : Ghosts D) (calls : List (DeviceCall D)) (config : File) (c : Configuration) (options : ServeOptions) (before after : Texts) (status : ℕ) → HoldsConfiguration (option_copied config.octets) (Ok c) → IsServedSomehow g calls c.zones.items → (status ≡ 3) ⊎ ((status ≡ 0) × IsServedFor g calls c options before after) → ServingEnds g calls config options before after status
+served g calls config c options before after status holds somehow (inr (none, is)) = record {
   done = λ _. (c, holds, is);
   refused = λ one. absurd (omega (arith, none, one));
   others = inl (omega (arith, none));
   called = inr (c, holds, inr somehow);
 }
-served g calls config c options err err_after status holds somehow (inl three) = record {
+served g calls config c options before after status holds somehow (inl three) = record {
   done = λ none. absurd (omega (arith, none, three));
   refused = λ one. absurd (omega (arith, one, three));
   others = inr three;
@@ -201,11 +202,11 @@ served g calls config c options err err_after status holds somehow (inl three) =
 }
 
 -- A device is refused.
-pub device_refused : {D E : Type 0} (g : Ghosts D) (calls : List (DeviceCall D)) (config : File) (c : Configuration) (options : ServeOptions) (place : ℕ) (fault : DeviceFault) (err err_after : Option (List ℕ)) (r : Result ℕ E) → HoldsConfiguration (option_copied config.octets) (Ok c) → IsNotServed g calls c.zones.items place fault → IfOk r (IsRefusalTold c.zones.items place fault options.explain err err_after) → ServingEnds g calls config options err err_after (result_unwrap_or r 3)
-device_refused g calls config c options place fault err err_after (Err e) holds not h = serving_failed g calls config options err err_after (inr (c, holds, inl (place, fault, not)))
-device_refused {D = D} g calls config c options place fault err err_after (Ok status) holds not h = go h
+pub device_refused : {D E : Type 0} (g : Ghosts D) (calls : List (DeviceCall D)) (config : File) (c : Configuration) (options : ServeOptions) (place : ℕ) (fault : DeviceFault) (before after : Texts) (r : Result ℕ E) → HoldsConfiguration (option_copied config.octets) (Ok c) → IsNotServed g calls c.zones.items place fault → IfOk r (IsRefusalTold c.zones.items place fault options.explain before.log after.log) → ServingEnds g calls config options before after (result_unwrap_or r 3)
+device_refused g calls config c options place fault before after (Err e) holds not h = serving_failed g calls config options before after (inr (c, holds, inl (place, fault, not)))
+device_refused {D = D} g calls config c options place fault before after (Ok status) holds not h = go h
   where
-    go : IsRefusalTold c.zones.items place fault options.explain err err_after status → ServingEnds g calls config options err err_after status
+    go : IsRefusalTold c.zones.items place fault options.explain before.log after.log status → ServingEnds g calls config options before after status
     go (inl e) = record { done = λ z. absurd (omega (arith, e, z)); refused = λ z. absurd (omega (arith, e, z)); others = inr e; called = inr (c, holds, inl (place, fault, not)) }
     go (inr told) = record {
       done = λ z. absurd (let one = told.0 in omega (arith, one, z));

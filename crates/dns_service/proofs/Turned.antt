@@ -42,9 +42,9 @@ module _ {I D S N L : Type 0} {i : index.Ghosts I} {d : store.Ghosts D} (s : str
   )
 
   -- What its notes say of turns, and that they are a run.
-  pub has_turned : RestLaw d → (said : List (List TurnMoment) → Type 0) (count : ℕ) (old new : Primary I D i d) (network network' : N) (first last : L) → IsServedOn s n l count old network first new network' last
-      → ((turns : List (List TurnMoment)) → Took l (AreReportsOfTurns turns) first last → said turns)
-      → HasTurned count (λ turns _. said turns) (λ m. IsKept old m) (IsLedTo old new)
+  pub has_turned : RestLaw d → (said : List (List TurnMoment) → Machine → Type 0) (count : ℕ) (old new : Primary I D i d) (network network' : N) (first last : L) (is : IsServedOn s n l count old network first new network' last)
+      → ((m : Machine) → IsKept old m → Took l (AreReportsOfTurns is.turns) first last → said is.turns m)
+      → HasTurned count said (λ m. IsKept old m) (IsLedTo old new)
   has_turned law said count old new network network' first last is log = (
     is.turns,
     is.many,
@@ -52,21 +52,31 @@ module _ {I D S N L : Type 0} {i : index.Ghosts I} {d : store.Ghosts D} (s : str
         let start : Served I D S N L i d = served_at_start old network first in
         let end : Served I D S N L i d = record { primary = new; connections = is.connections; network = network'; notes = last } in
         let to = turns_run s n l law is.turns start end m is.made kept in
-        (log is.turns (turns_noted s n l is.turns start end is.made), (to.0, to.1, (to.2, to.3))),
+        (log m kept (turns_noted s n l is.turns start end is.made), (to.0, to.1, (to.2, to.3))),
   )
 
 -- ... whatever the network is.
-pub has_been_turned : {I D S N L : Type 0} {i : index.Ghosts I} {d : store.Ghosts D} {s : stream.Ghosts S} {n : Ghosts N S} {l : notes.Ghosts L}
-    {count : ℕ} {old new : Primary I D i d} {network network' : N} {first last : L} → RestLaw d → (said : List (List TurnMoment) → Type 0) → IsServedOn s n l count old network first new network' last
-    → ((turns : List (List TurnMoment)) → Took l (AreReportsOfTurns turns) first last → said turns)
-    → HasTurned count (λ turns _. said turns) (λ m. IsKept old m) (IsLedTo old new)
-has_been_turned {s = s} {n = n} {l = l} {count = count} {old = old} {new = new} {network = network} {network' = network'} {first = first} {last = last} law said is log =
+pub turned_from : {I D S N L : Type 0} {i : index.Ghosts I} {d : store.Ghosts D} {s : stream.Ghosts S} {n : Ghosts N S} {l : notes.Ghosts L}
+    {count : ℕ} {old new : Primary I D i d} {network network' : N} {first last : L} → RestLaw d → (said : List (List TurnMoment) → Machine → Type 0) (is : IsServedOn s n l count old network first new network' last)
+    → ((m : Machine) → IsKept old m → Took l (AreReportsOfTurns is.turns) first last → said is.turns m)
+    → HasTurned count said (λ m. IsKept old m) (IsLedTo old new)
+turned_from {s = s} {n = n} {l = l} {count = count} {old = old} {new = new} {network = network} {network' = network'} {first = first} {last = last} law said is log =
     has_turned s n l law said count old new network network' first last is log
 
--- No turn was made.
-pub none_run : {I D : Type 0} {i : index.Ghosts I} {d : store.Ghosts D} → RestLaw d → (p : Primary I D i d) → HasRun (λ m. IsKept p m) (IsLedTo p p)
-none_run law p = ([], λ m kept. ([], record { runs = tt; each = tt }, (kept, leads_nowhere law p m kept)))
+-- What follows from what is said of turns.
+pub turned_so : {count : ℕ} {says : OfRun} (said said' : List (List TurnMoment) → Machine → Type 0) (keeps : Machine → Type 0) → HasTurned count said keeps says
+    → ((turns : List (List TurnMoment)) (m : Machine) → keeps m → said turns m → said' turns m) → HasTurned count said' keeps says
+turned_so said said' keeps is so = (is.0, is.1, λ m kept. (so is.0 m kept (is.2 m kept).0, (is.2 m kept).1))
 
 -- Some turns were made.
 pub some_run : (count : ℕ) (said : List (List TurnMoment) → Machine → Type 0) (keeps : Machine → Type 0) (says : OfRun) → HasTurned count said keeps says → HasRun keeps says
 some_run count said keeps says is = (is.0, λ m kept. (is.2 m kept).1)
+
+-- However it ended.
+pub has_run : {I D S N L : Type 0} {i : index.Ghosts I} {d : store.Ghosts D} {s : stream.Ghosts S} {n : Ghosts N S} {l : notes.Ghosts L}
+    {count : ℕ} {old new : Primary I D i d} {network network' : N} {first last : L} → RestLaw d → IsServedOn s n l count old network first new network' last → HasRun (λ m. IsKept old m) (IsLedTo old new)
+has_run {count = count} {old = old} {new = new} law is = some_run count (λ _ _. Unit {0}) (λ m. IsKept old m) (IsLedTo old new) (turned_from law (λ _ _. Unit {0}) is (λ m kept took. tt))
+
+-- No turn was made.
+pub none_run : {I D : Type 0} {i : index.Ghosts I} {d : store.Ghosts D} → RestLaw d → (p : Primary I D i d) → HasRun (λ m. IsKept p m) (IsLedTo p p)
+none_run law p = ([], λ m kept. ([], record { runs = tt; each = tt }, (kept, leads_nowhere law p m kept)))

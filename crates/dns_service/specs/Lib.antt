@@ -1,4 +1,5 @@
 pub mod Carried
+pub mod Counting
 pub mod DatagramSockets
 pub mod Listeners
 pub mod Log
@@ -12,7 +13,9 @@ pub mod ServedTurns
 pub mod Socket
 pub mod Sockets
 pub mod SystemCalls
+pub mod Telling
 pub mod TransferLines
 pub mod Udp
 pub mod UpdateLines
 pub mod Verdict
+pub mod Watching

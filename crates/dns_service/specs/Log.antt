@@ -19,8 +19,6 @@ use Rattle.dns_primary.specs.declared.event.Peer.{Peer}
 use Rattle.dns_network.specs.declared.network.Note.{Note}
 use Rattle.dns_network.specs.declared.network.Note.TheVariants as note
 use Rattle.dns_network.specs.Notes.{Report, OfNote, OfEvent}
-use Rattle.dns_network.specs.Reports.{AreReportsOfTurns}
-use Rattle.dns_network.specs.Turn.{TurnMoment}
 use Rattle.dns_configuration.specs.Faults.{line}
 use Rattle.dns_service.specs.declared.log.Counts.{Counts}
 use Rattle.dns_service.specs.declared.transfer_lines.Transfer.{Transfer}
@@ -205,11 +203,10 @@ pub record IsLogged (quiet : Bool) (origins : List Labels) (one : Report) (faile
       → (failed ≡ false) × IsSaid (report_said quiet origins log.known one) log after
   pub written : IsWrittenAt quiet one → after.lines ≡ []
 
--- The log of these turns was written after all that had been written: first these lines, then those of the
+-- The log of these reports was written after all that had been written: first these lines, then those of the
 -- addresses, and then what is said of the reports, in order.
 abbrev pub IsLogOf : List ℕ → Bool → List Labels → List SocketAddr → Option (List ℕ) → Option (List ℕ)
-    → List (List TurnMoment) → Type 0
-IsLogOf first quiet origins addresses err err_after turns =
-    (reports : List Report) × AreReportsOfTurns turns reports
-    × Appends err err_after
+    → List Report → Type 0
+IsLogOf first quiet origins addresses err err_after reports =
+    Appends err err_after
     (first ++ (listening_lines addresses ++ log_of quiet origins nothing_known reports))

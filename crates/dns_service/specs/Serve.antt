@@ -32,10 +32,11 @@ use Rattle.dns_primary.specs.Stop.{IsMaking, OpensAsRecovered}
 use Rattle.dns_primary.specs.declared.primary.Primary.{Primary}
 use Rattle.dns_primary.specs.declared.primary.ZoneSpec.{ZoneSpec}
 use Rattle.dns_configuration.specs.Known.{origins_of}
-use Rattle.dns_service.specs.Log.{IsLogOf, zone_lines}
+use Rattle.dns_service.specs.Log.{zone_lines}
 use Rattle.dns_service.specs.declared.server.ServeOptions.{ServeOptions}
 use Rattle.dns_service.specs.Opening.{IsNotServed, IsServed, OfRecovered, closings}
 use Rattle.dns_service.specs.ServedTurns.{HaveRun}
+use Rattle.dns_service.specs.Telling.{AreTold, Telling, Texts}
 
 -- The path of the device of the zone there.
 abbrev pub IsPathAt : List ZoneSettings → ℕ → List ℕ → Type 0
@@ -90,18 +91,29 @@ HaveServed g turns zones back devices known m event tries start =
     HaveRun turns (λ _ run. AreLeft g zones back known (last_of start run)
     × AreServedFrom g (suc tries) m event start run 0 m.zones devices back) start
 
+-- What a server of a configuration's zones is to tell of.
+abbrev pub telling_for : Configuration → ServeOptions → Telling
+telling_for c options = record {
+  is_quiet = options.is_quiet;
+  is_recorded = options.is_recorded;
+  count_every = options.count_every;
+  origins = origins_of c.zones.items;
+  addresses = c.listen.items;
+}
+
 -- All turns were made of a primary over the devices of a configuration's zones, which were then closed. The
--- log tells of the versions that are shown at the run's start, of the addresses, and of all that was noted.
+-- log tells of the versions that are shown at the run's start, of the addresses, and of all that was noted;
+-- a script has each event, and counts are told, if they are wanted.
 pub record IsServedFor {D : Type 0} (g : Ghosts D) (calls : List (DeviceCall D)) (c : Configuration)
-    (options : ServeOptions) (err err_after : Option (List ℕ)) : Type 0 where
+    (options : ServeOptions) (before after : Texts) : Type 0 where
   pub opening : List (DeviceCall D)
   pub back : List D
   pub came : calls ≡ opening ++ closings back c.zones.items
   pub turns : List (List TurnMoment)
   pub many : length turns ≡ options.turns
-  pub served : let names = origins_of c.zones.items in
-      IsServed g opening c.zones.items (λ devices known m event tries start.
-      IsLogOf (zone_lines names start.zones) options.is_quiet names c.listen.items err err_after turns
+  pub served : IsServed g opening c.zones.items (λ devices known m event tries start.
+      AreTold (telling_for c options) (zone_lines (origins_of c.zones.items) start.zones) start turns before
+      after
       × HaveServed g turns c.zones.items back devices known m event tries start)
 
 -- However it ended: some turns were made, and the devices were closed.
@@ -123,16 +135,16 @@ IsServingTried g calls config =
     ⊎ IsServedSomehow g calls c.zones.items))
 
 -- How a server ends: all its turns were made, over the devices of the zones of its configuration, and its log
--- was written; or nothing was served, and the fault of the configuration or of the first device that is
--- refused is reported. With status 3 a device or an address can't be had, a writer failed or memory was
--- refused.
+-- was written, and the script of them and counts if they are wanted; or nothing was served, and the fault of
+-- the configuration or of the first device that is refused is reported. With status 3 a device or an address
+-- can't be had, a writer failed or memory was refused.
 pub record ServingEnds {D : Type 0} (g : Ghosts D) (calls : List (DeviceCall D)) (config : File)
-    (options : ServeOptions) (err err_after : Option (List ℕ)) (status : ℕ) : Type 0 where
+    (options : ServeOptions) (before after : Texts) (status : ℕ) : Type 0 where
   pub done : status ≡ 0
       → (c : Configuration) × HoldsConfiguration (option_copied config.octets) (Ok c)
-      × IsServedFor g calls c options err err_after
+      × IsServedFor g calls c options before after
   pub refused : status ≡ 1
-      → (text : List ℕ) × Appends err err_after (line text)
+      → (text : List ℕ) × Appends before.log after.log (line text)
       × (((fault : Fault) × HoldsConfiguration (option_copied config.octets) (Err fault)
       × (text ≡ fault_text config.path.now fault))
       ⊎ ((c : Configuration) × HoldsConfiguration (option_copied config.octets) (Ok c)

@@ -1,5 +1,5 @@
 -- What is done to a primary while it is served.
-use Rattle.std.specs.Prelude.{◌≡◌, ◌⊎◌, ℕ, List, length, Option, None, replicate}
+use Rattle.std.specs.Prelude.{◌≡◌, ◌⊎◌, ℕ, true, List, length, Option, None, replicate}
 use Rattle.dns_network.specs.declared.connection.Connection.{Connection}
 use Rattle.dns_network.specs.declared.stream.Stream as stream
 use Rattle.dns_zone.specs.declared.index.ZoneIndex as index
@@ -15,10 +15,19 @@ use Rattle.dns_network.specs.Turn.{TurnMoment}
 use Rattle.dns_network.specs.Turns.{AreTurns}
 use Rattle.dns_network.specs.Left.{LeadsThrough}
 use Rattle.dns_network.specs.Runs.{IsRunOf, told_by}
+use Rattle.dns_names.specs.Name.{Labels}
+use Rattle.dns_counters.specs.declared.counting.Counting.{Counting}
+use Rattle.dns_counters.specs.Counters.{no_counts}
+use Rattle.dns_service.specs.Counting.{AreCountsOf}
 
 -- A network looked what came meanwhile, or waited, or nothing was done.
 abbrev pub HasPaused : {S N : Type 0} → Ghosts N S → N → N → Type 0
 HasPaused n old new = (new ≡ old) ⊎ n.looks old new
+
+-- An observer that has counted nothing, and counts if that is told each some seconds.
+pub record BeginsCounting (every : ℕ) (c : Counting) : Type 0 where
+  pub none : c.counters ≡ no_counts
+  pub on : (every ≡ 0 → ⊥) → c.is_on ≡ true
 
 module _ {I D S N L : Type 0} {i : index.Ghosts I} {d : store.Ghosts D} where
   -- A primary before the first connection.
@@ -36,6 +45,16 @@ module _ {I D S N L : Type 0} {i : index.Ghosts I} {d : store.Ghosts D} where
     pub many : length turns ≡ count
     pub made : AreTurns s n l turns (served_at_start old network notes)
         (record { primary = new; connections = connections; network = network'; notes = notes' })
+
+  -- So it is, and what is told of counts comes after all that an output held, where an observer had these
+  -- before.
+  pub record IsCountedOn (s : stream.Ghosts S) (n : Ghosts N S) (l : notes.Ghosts L) (every : ℕ)
+      (origins : List Labels) (count : ℕ) (old : Primary I D i d) (network : N) (notes : L)
+      (before : Counting) (out : Option (List ℕ)) (new : Primary I D i d) (network' : N) (notes' : L)
+      (out_after : Option (List ℕ)) : Type 0 where
+    pub served : IsServedOn s n l count old network notes new network' notes'
+    pub counts : BeginsCounting every before → (m : Machine) → IsKept old m
+        → AreCountsOf every origins m served.turns out out_after
 
 -- What is said of a run from a machine.
 abbrev pub OfRun : Type 1

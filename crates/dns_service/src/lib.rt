@@ -20,4 +20,4 @@ mod udp;
 mod update_lines;
 mod watched;
 
-pub use server::{ServeOptions, serve};
+pub use server::{Host, ServeOptions, Streams, serve};

@@ -4,6 +4,7 @@ ghost use Rattle.std.specs.Io.KnownBytes.{Appends};
 ghost use Rattle.dns_names.specs.Name.{Labels};
 ghost use Rattle.dns_primary.specs.Steps.{event_shown};
 ghost use Rattle.dns_network.specs.Notes.{OfEvent, OfNote};
+ghost use Rattle.dns_service.specs.Counting.{counting_after};
 ghost use Rattle.dns_service.specs.Log.{IsAdded, IsLogged, IsSaid, Known, addresses_after, closed_line};
 ghost use Rattle.dns_service.specs.Log.{count_line, logged, observation_said, opened_line, said_of, summary};
 ghost use Rattle.dns_service.specs.Log.{transfers_noted};
@@ -207,6 +208,7 @@ impl<E: Write> Log<'_, E> {
     /// Writes what is still to be written.
     fn write_out(&mut self) -> io::Result<()>
         ensures same_reference { self.new.err.ghost_name ≡ self.old.err.ghost_name }
+        ensures counting { self.new.counting ≡ self.old.counting }
         ensures origins { self.new.origins.now ≡ self.old.origins.now }
         ensures quiet { self.new.is_quiet ≡ self.old.is_quiet }
         ensures counts { self.new.counts ≡ self.old.counts }
@@ -225,6 +227,7 @@ impl<E: Write> Log<'_, E> {
     /// Takes a note of which lines are to be written when the turn ends, or none.
     fn take(&mut self, note: Note)
         ensures same_reference { self.new.err.ghost_name ≡ self.old.err.ghost_name }
+        ensures counting { self.new.counting ≡ self.old.counting }
         ensures text { E.contents self.new.err.now ≡ E.contents self.old.err.now }
         ensures origins { self.new.origins.now ≡ self.old.origins.now }
         ensures quiet { self.new.is_quiet ≡ self.old.is_quiet }
@@ -254,6 +257,7 @@ impl<E: Write> Log<'_, E> {
     /// Appends what is reported of an event and its effects, and keeps what it makes of the open transfers.
     fn add_report(&mut self, event: Event<'_>, effects: &Effects) -> io::Result<()>
         ensures same_reference { self.new.err.ghost_name ≡ self.old.err.ghost_name }
+        ensures counting { self.new.counting ≡ self.old.counting }
         ensures text { E.contents self.new.err.now ≡ E.contents self.old.err.now }
         ensures origins { self.new.origins.now ≡ self.old.origins.now }
         ensures quiet { self.new.is_quiet ≡ self.old.is_quiet }
@@ -286,6 +290,7 @@ impl<E: Write> Log<'_, E> {
     /// Takes what is to be reported of an event, or notes that it can't.
     fn take_event(&mut self, event: Event<'_>, effects: &Effects)
         ensures same_reference { self.new.err.ghost_name ≡ self.old.err.ghost_name }
+        ensures counting { self.new.counting ≡ self.old.counting }
         ensures text { E.contents self.new.err.now ≡ E.contents self.old.err.now }
         ensures origins { self.new.origins.now ≡ self.old.origins.now }
         ensures quiet { self.new.is_quiet ≡ self.old.is_quiet }
@@ -309,6 +314,7 @@ impl<E: Write> Log<'_, E> {
     /// Writes what is still to be written, or notes that it can't.
     fn settle(&mut self)
         ensures same_reference { self.new.err.ghost_name ≡ self.old.err.ghost_name }
+        ensures counting { self.new.counting ≡ self.old.counting }
         ensures origins { self.new.origins.now ≡ self.old.origins.now }
         ensures quiet { self.new.is_quiet ≡ self.old.is_quiet }
         ensures counts { self.new.counts ≡ self.old.counts }
@@ -327,6 +333,7 @@ impl<E: Write> Log<'_, E> {
     #[inline(never)]
     fn report(&mut self, event: Event<'_>, effects: &Effects)
         ensures same_reference { self.new.err.ghost_name ≡ self.old.err.ghost_name }
+        ensures counting { self.new.counting ≡ self.old.counting }
         ensures origins { self.new.origins.now ≡ self.old.origins.now }
         ensures quiet { self.new.is_quiet ≡ self.old.is_quiet }
         ensures said { self.new.has_failed ≡ false → (self.old.has_failed ≡ false)
@@ -381,7 +388,8 @@ fn is_silent(counts: Counts, note: Note) -> bool
 }
 
 impl<E: Write> Observer for Log<'_, E> {
-    ghost takes = { λ old note new. (new.err.ghost_name ≡ old.err.ghost_name)
+    ghost takes = { λ old note new. (new.counting ≡ counting_after old.counting (OfNote note))
+        × (new.err.ghost_name ≡ old.err.ghost_name)
         × (new.origins.now ≡ old.origins.now)
         × (new.is_quiet ≡ old.is_quiet)
         × IsLogged old.is_quiet old.origins.now (OfNote note) old.has_failed new.has_failed
@@ -390,7 +398,9 @@ impl<E: Write> Observer for Log<'_, E> {
         (logged (E.contents new.err.now) new.lines.now.items new.counts new.addresses.now.items
         new.transfers.now.items) };
 
-    ghost observes = { λ old event effects new. (new.err.ghost_name ≡ old.err.ghost_name)
+    ghost observes = { λ old event effects new.
+        (new.counting ≡ counting_after old.counting (OfEvent event effects))
+        × (new.err.ghost_name ≡ old.err.ghost_name)
         × (new.origins.now ≡ old.origins.now)
         × (new.is_quiet ≡ old.is_quiet)
         × IsLogged old.is_quiet old.origins.now (OfEvent event effects) old.has_failed new.has_failed
@@ -435,6 +445,12 @@ impl<E: Write> Observer for Log<'_, E> {
 }
 
 impl<E: Write> Watched for Log<'_, E> {
+    ghost counting = { λ log. log.counting };
+
+    ghost notes_counted = { λ old note new taken. taken.0 };
+
+    ghost events_counted = { λ old event effects new seen. seen.0 };
+
     fn counters(&self) -> &Counters {
         &self.counting.counters
     }

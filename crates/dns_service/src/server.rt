@@ -1,13 +1,17 @@
 //! A server over devices and sockets.
-ghost use Rattle.std.specs.Prelude.{◌≡◌, ◌⊎◌, [], IfOk, MatchResult, OnOk};
+ghost use Rattle.std.specs.Prelude.{◌≡◌, ◌⊎◌, true, [], IfOk, MatchResult, OnOk};
 ghost use Rattle.std.specs.Result.{result_unwrap_or};
 ghost use Rattle.std.specs.Io.KnownBytes.{Appends};
-ghost use Rattle.dns_service.specs.Log.{IsLogOf, listening_lines, zone_line, zone_lines};
-ghost use Rattle.dns_service.specs.Serve.{ArePrimaryClosed, IsRefusalTold, ServingEnds};
-ghost use Rattle.dns_service.specs.ServedTurns.{HasPaused, HasRun, HasTurned, IsLedTo, IsServedOn};
-ghost use Rattle.dns_configuration.specs.Calls.{Calls};
 ghost use Rattle.dns_primary.specs.Keeps.{IsKept};
 ghost use Rattle.dns_primary.specs.Machine.{Machine};
+ghost use Rattle.dns_recording.specs.Script.{zone_comments};
+ghost use Rattle.dns_configuration.specs.Calls.{Calls};
+ghost use Rattle.dns_service.specs.Counting.{AreCountsOf};
+ghost use Rattle.dns_service.specs.Log.{listening_lines, zone_line, zone_lines};
+ghost use Rattle.dns_service.specs.Serve.{ArePrimaryClosed, IsRefusalTold, ServingEnds};
+ghost use Rattle.dns_service.specs.ServedTurns.{BeginsCounting, HasPaused, HasRun, HasTurned, IsCountedOn};
+ghost use Rattle.dns_service.specs.ServedTurns.{IsLedTo, IsServedOn};
+ghost use Rattle.dns_service.specs.Telling.{AreScripted, AreTold, telling_of, texts_of};
 
 use crate::log::{Counts, Log};
 use crate::opening::{Refusal, close_stores, open_primary};
@@ -21,6 +25,7 @@ use dns_memory::Heap;
 use dns_names::Name;
 use dns_network::{Edge, Network, Observer, Stream};
 use dns_primary::Primary;
+use dns_recording::Recorder;
 use dns_sectors::Sectors;
 use dns_store::{KeptStore, ZoneStore};
 use dns_zone::{Zone, ZoneIndex};
@@ -150,7 +155,7 @@ fn log_checkpoints<R: Clock + Logger, I: ZoneIndex, D: ZoneStore>(
 }
 
 /// Makes the turns of a service, waits after each one in which nothing was done, tells the counts, and logs
-/// what is to be logged.
+/// what is to be logged. Returns whether all counts that were to be told were.
 fn run<
     R: Clock + Logger,
     I: ZoneIndex,
@@ -165,11 +170,16 @@ fn run<
     network: &mut N,
     notes: &mut L,
     counts: &mut CountLines<'_, O>,
-) -> io::Result<()>
-    ensures { MatchResult result
+) -> io::Result<bool>
+    ensures same_output { counts.new.out.ghost_name ≡ counts.old.out.ghost_name }
+    ensures served { MatchResult result
         (λ _. IsServedOn S.Stream N.Network L.Observer service.now.turns primary.old network.old notes.old
         primary.new network.new notes.new)
         (λ _. primary.new ≡ primary.old) }
+    ensures counted { IfOk result (λ is_told. is_told ≡ true
+        → IsCountedOn S.Stream N.Network L.Observer counts.old.every counts.old.origins.now service.now.turns
+        primary.old network.old notes.old (L.counting notes.old) (O.contents counts.old.out.now) primary.new
+        network.new notes.new (O.contents counts.new.out.now)) }
 {
     let (heap, rt) = (service.heap, service.rt);
     let mut edge: Edge<S> = Edge::new(heap)?;
@@ -177,16 +187,18 @@ fn run<
     checkpoints.look(rt, primary, service.origins, 0);
     let start = Instant::now(rt)?;
     let mut now = 0;
+    let mut is_told = true;
     for turn in 0..service.turns {
         now = poll(rt, &start, network, turn, now);
         let begun = begin(rt, &checkpoints);
         let is_done = edge.turn(heap, network, primary, notes, now);
         log_checkpoints(service, &mut checkpoints, primary, begun);
         notes.diagnostics().give_out(rt);
-        let _told = counts.tell_if_due(heap, notes.counters(), primary, now);
+        let told = counts.tell_if_due(heap, notes.counters(), primary, now);
+        is_told &= told.is_ok();
         now = pause(rt, &start, network, is_done, now);
     }
-    Ok(())
+    Ok(is_told)
 }
 
 /// Tells which address can't be had, if one is known.
@@ -197,9 +209,9 @@ fn tell_unavailable<E: Write>(err: &mut E, address: Option<SocketAddr>) -> io::R
     }
 }
 
-/// What a server has besides a primary and its log: the names of its zones, the addresses on which it
+/// What a server has besides a primary and its streams: the names of its zones, the addresses on which it
 /// listens, how many turns it makes, whether lines of connections are left out of its log, each how many
-/// seconds counts are told, and of which levels diagnostic lines are logged.
+/// seconds counts are told, of which levels diagnostic lines are logged, and whether a script is written.
 #[derive(Drop)]
 struct Service<'a, R> {
     heap: Heap,
@@ -210,21 +222,62 @@ struct Service<'a, R> {
     is_quiet: bool,
     count_every: u64,
     log_level: LevelFilter,
+    is_recorded: bool,
+}
+
+/// Makes the turns of a service, and writes their script if that is wanted. Returns whether no line of it is
+/// left to write, and all counts that were to be told were.
+fn run_recorded<
+    R: Clock + Logger,
+    I: ZoneIndex,
+    D: ZoneStore,
+    S: Stream + Drop,
+    N: Network<S>,
+    L: Observer + Watched,
+    W: Write,
+    O: Write,
+>(
+    service: &Service<'_, R>,
+    primary: &mut Primary<I, D>,
+    network: &mut N,
+    log: &mut L,
+    script: &mut W,
+    counts: &mut CountLines<'_, O>,
+) -> io::Result<bool>
+    ensures same_output { counts.new.out.ghost_name ≡ counts.old.out.ghost_name }
+    ensures run { HasRun (λ m. IsKept primary.old m) (IsLedTo primary.old primary.new) }
+    ensures told { IfOk result (λ is_told. is_told ≡ true
+        → BeginsCounting counts.old.every (L.counting log.old)
+        → HasTurned service.now.turns
+        (λ turns m. AreScripted L.Observer service.now.is_recorded
+        (zone_comments service.now.origins.now m.zones) (W.contents script.old) (W.contents script.new) turns
+        log.old log.new
+        × AreCountsOf counts.old.every counts.old.origins.now m turns (O.contents counts.old.out.now)
+        (O.contents counts.new.out.now))
+        (λ m. IsKept primary.old m) (IsLedTo primary.old primary.new)) }
+{
+    let mut lines = Vec::new(service.heap);
+    let mut recorder = Recorder::new(script, log, &mut lines, service.is_recorded);
+    recorder.write_start(primary, service.origins);
+    let is_told = run(service, primary, network, &mut recorder, counts)?;
+    Ok(is_told & recorder.is_written())
 }
 
 /// Listens on the addresses of a service, and makes its turns.
-fn listen<'a, R: Net + Clock + Logger, I: ZoneIndex, S: ZoneStore, O: Write, E: Write>(
+fn listen<'a, R: Net + Clock + Logger, I: ZoneIndex, S: ZoneStore, O: Write, E: Write, W: Write>(
     service: &Service<'a, R>,
     primary: &mut Primary<I, S>,
     out: &mut O,
     err: &mut E,
+    script: &mut W,
 ) -> io::Result<u8>
     ensures run { HasRun (λ m. IsKept primary.old m) (IsLedTo primary.old primary.new) }
     ensures ended { IfOk result (λ status. (status ≡ FAILED)
         ⊎ ((status ≡ DONE)
         × HasTurned service.now.turns
-        (λ told _. IsLogOf [] service.now.is_quiet service.now.origins.now service.now.addresses.now
-        (E.contents err.old) (E.contents err.new) told)
+        (λ turns m. AreTold (telling_of service.now) [] m turns
+        (record { output = O.contents out.old; log = E.contents err.old; script = W.contents script.old })
+        (record { output = O.contents out.new; log = E.contents err.new; script = W.contents script.new }))
         (λ m. IsKept primary.old m) (IsLedTo primary.old primary.new))) }
 {
     let (heap, rt, origins) = (service.heap, service.rt, service.origins);
@@ -262,78 +315,89 @@ fn listen<'a, R: Net + Clock + Logger, I: ZoneIndex, S: ZoneStore, O: Write, E: 
         every,
         next: every,
     };
-    run(service, primary, &mut sockets, &mut log, &mut told)?;
-    if !log.is_written() {
-        return Ok(FAILED);
+    let is_told = run_recorded(service, primary, &mut sockets, &mut log, script, &mut told)?;
+    if is_told && log.is_written() {
+        return Ok(DONE);
     }
-    Ok(DONE)
+    Ok(FAILED)
+}
+/// Where a server writes: counts, its log, and the script of a recording.
+#[derive(Drop)]
+pub struct Streams<O, E, W> {
+    /// Counts go here.
+    pub out: O,
+    /// The log goes here.
+    pub err: E,
+    /// The script of a recording goes here, if one is wanted.
+    pub record: W,
 }
 
 /// Tells which versions are shown, listens, and makes the turns of a service.
-fn serve_primary<R: Net + Clock + Logger, I: ZoneIndex, S: ZoneStore, O: Write, E: Write>(
+fn serve_primary<R: Net + Clock + Logger, I: ZoneIndex, S: ZoneStore, O: Write, E: Write, W: Write>(
     service: &Service<'_, R>,
     primary: &mut Primary<I, S>,
-    out: &mut O,
-    err: &mut E,
+    streams: &mut Streams<O, E, W>,
 ) -> io::Result<u8>
     ensures run { HasRun (λ m. IsKept primary.old m) (IsLedTo primary.old primary.new) }
     ensures ended { IfOk result (λ status. (status ≡ FAILED)
         ⊎ ((status ≡ DONE)
         × HasTurned service.now.turns
-        (λ told m. IsLogOf (zone_lines service.now.origins.now m.zones) service.now.is_quiet
-        service.now.origins.now service.now.addresses.now (E.contents err.old) (E.contents err.new) told)
+        (λ turns m. AreTold (telling_of service.now) (zone_lines service.now.origins.now m.zones) m turns
+        (texts_of O.contents E.contents W.contents streams.old)
+        (texts_of O.contents E.contents W.contents streams.new))
         (λ m. IsKept primary.old m) (IsLedTo primary.old primary.new))) }
 {
-    tell_zones(err, primary, service.origins)?;
-    listen(service, primary, out, err)
+    tell_zones(&mut streams.err, primary, service.origins)?;
+    listen(
+        service,
+        primary,
+        &mut streams.out,
+        &mut streams.err,
+        &mut streams.record,
+    )
 }
 
 /// What can be served so. (A call that names both a store over a device and the memory of every collection
 /// has no proof, so that the service is a type parameter.)
-trait Servable<S, O, E> {
+trait Servable<S, T> {
     /// Some turns were made of it.
     ghost has_run: { Self → Self → Type 0 };
 
-    /// All turns of a service were made of it, and it and the log are these after them.
-    ghost is_served: { Self → S → E → Self → E → Type 0 };
+    /// All turns of a service were made of it, and it and the streams are these after them.
+    ghost is_served: { Self → S → T → Self → T → Type 0 };
 
     /// Serves it, and returns the exit status.
-    fn serve_as(&mut self, service: &S, out: &mut O, err: &mut E) -> u8
+    fn serve_as(&mut self, service: &S, streams: &mut T) -> u8
         ensures run { has_run self.old self.new }
         ensures ended { (result ≡ FAILED)
-            ⊎ ((result ≡ DONE) × is_served self.old service.now err.old self.new err.new) };
+            ⊎ ((result ≡ DONE) × is_served self.old service.now streams.old self.new streams.new) };
 }
 
-impl<R: Net + Clock + Logger, I: ZoneIndex, S: ZoneStore, O: Write, E: Write> Servable<
+impl<R: Net + Clock + Logger, I: ZoneIndex, S: ZoneStore, O: Write, E: Write, W: Write> Servable<
     Service<'_, R>,
-    O,
-    E,
+    Streams<O, E, W>,
 > for Primary<I, S> {
     ghost has_run = { λ primary after. HasRun (λ m. IsKept primary m) (IsLedTo primary after) };
 
-    ghost is_served = { λ primary service err after err_after.
+    ghost is_served = { λ primary service streams after streams_after.
         HasTurned service.turns
-        (λ told m. IsLogOf (zone_lines service.origins.now m.zones) service.is_quiet service.origins.now
-        service.addresses.now (E.contents err) (E.contents err_after) told)
+        (λ turns m. AreTold (telling_of service) (zone_lines service.origins.now m.zones) m turns
+        (texts_of O.contents E.contents W.contents streams)
+        (texts_of O.contents E.contents W.contents streams_after))
         (λ m. IsKept primary m) (IsLedTo primary after) };
 
-    fn serve_as(&mut self, service: &Service<'_, R>, out: &mut O, err: &mut E) -> u8 {
-        serve_primary(service, self, out, err).unwrap_or(FAILED)
+    fn serve_as(&mut self, service: &Service<'_, R>, streams: &mut Streams<O, E, W>) -> u8 {
+        serve_primary(service, self, streams).unwrap_or(FAILED)
     }
 }
 
 /// Serves a primary, and returns the exit status.
-fn serve_as<S, O, E, P: Servable<S, O, E>>(
-    primary: &mut P,
-    service: &S,
-    out: &mut O,
-    err: &mut E,
-) -> u8
+fn serve_as<S, T, P: Servable<S, T>>(primary: &mut P, service: &S, streams: &mut T) -> u8
     ensures run { P.has_run primary.old primary.new }
     ensures ended { (result ≡ FAILED)
-        ⊎ ((result ≡ DONE) × P.is_served primary.old service.now err.old primary.new err.new) }
+        ⊎ ((result ≡ DONE) × P.is_served primary.old service.now streams.old primary.new streams.new) }
 {
-    primary.serve_as(service, out, err)
+    primary.serve_as(service, streams)
 }
 
 /// Tells which device is refused, and gives the exit status.
@@ -365,51 +429,12 @@ fn close_primary<D: Sectors + Drop, F: Devices<D>, I: ZoneIndex>(
     close_stores(devices, zones, primary.into_stores());
 }
 
-/// Opens the stores of all zones, serves them and closes their devices. Returns the exit status.
-fn serve_all<
-    D: Sectors + Drop,
-    F: Devices<D>,
-    I: ZoneIndex,
-    R: Net + Clock + Logger,
-    O: Write,
-    E: Write,
->(
-    alloc: Global,
-    heap: Heap,
-    rt: &R,
-    devices: &mut F,
-    config: &File<'_>,
-    options: ServeOptions,
-    out: &mut O,
-    err: &mut E,
-) -> io::Result<u8>
-    ensures { Calls (F.calls devices.old) (F.calls devices.new)
-        (λ calls. ServingEnds D.Sectors calls config.now options (E.contents err.old) (E.contents err.new)
-        (result_unwrap_or result FAILED)) }
-{
-    let configuration = match read_configuration(alloc, heap, config) {
-        Ok(configuration) => configuration,
-        Err(fault) => return tell(err, config.path, fault),
-    };
-    let origins = origins_of(heap, &configuration.zones)?;
-    match open_primary::<D, F, I>(heap, devices, &configuration.zones, &origins) {
-        Ok(mut primary) => {
-            let service = Service {
-                heap,
-                rt,
-                origins: &origins,
-                addresses: &configuration.listen,
-                turns: options.turns,
-                is_quiet: options.is_quiet,
-                count_every: options.count_every,
-                log_level: options.log_level,
-            };
-            let status = serve_as(&mut primary, &service, out, err);
-            close_primary(devices, &configuration.zones, primary);
-            Ok(status)
-        }
-        Err(refusal) => tell_refusal(err, &configuration.zones, refusal, options.explain),
-    }
+/// What a server runs on: memory, and the system's sockets and clock.
+#[derive(Drop)]
+pub struct Host<'a, R> {
+    pub alloc: Global,
+    pub heap: Heap,
+    pub rt: &'a R,
 }
 
 /// How a server is to be run.
@@ -423,8 +448,61 @@ pub struct ServeOptions {
     pub count_every: u64,
     /// Of which levels diagnostic lines are logged.
     pub log_level: LevelFilter,
+    /// Whether the script of what happens is written.
+    pub is_recorded: bool,
     /// Whether a second line says what can be done about a device that is refused.
     pub explain: bool,
+}
+
+/// Opens the stores of all zones, serves them and closes their devices. Returns the exit status.
+fn serve_all<
+    D: Sectors + Drop,
+    F: Devices<D>,
+    I: ZoneIndex,
+    R: Net + Clock + Logger,
+    O: Write,
+    E: Write,
+    W: Write,
+>(
+    host: &Host<'_, R>,
+    devices: &mut F,
+    config: &File<'_>,
+    options: ServeOptions,
+    streams: &mut Streams<O, E, W>,
+) -> io::Result<u8>
+    ensures { Calls (F.calls devices.old) (F.calls devices.new)
+        (λ calls. ServingEnds D.Sectors calls config.now options
+        (texts_of O.contents E.contents W.contents streams.old)
+        (texts_of O.contents E.contents W.contents streams.new) (result_unwrap_or result FAILED)) }
+{
+    let (alloc, heap, rt) = (host.alloc, host.heap, host.rt);
+    let configuration = match read_configuration(alloc, heap, config) {
+        Ok(configuration) => configuration,
+        Err(fault) => return tell(&mut streams.err, config.path, fault),
+    };
+    let origins = origins_of(heap, &configuration.zones)?;
+    match open_primary::<D, F, I>(heap, devices, &configuration.zones, &origins) {
+        Ok(mut primary) => {
+            let service = Service {
+                heap,
+                rt,
+                origins: &origins,
+                addresses: &configuration.listen,
+                turns: options.turns,
+                is_quiet: options.is_quiet,
+                count_every: options.count_every,
+                log_level: options.log_level,
+                is_recorded: options.is_recorded,
+            };
+            let status = serve_as(&mut primary, &service, streams);
+            close_primary(devices, &configuration.zones, primary);
+            Ok(status)
+        }
+        Err(refusal) => {
+            let err = &mut streams.err;
+            tell_refusal(err, &configuration.zones, refusal, options.explain)
+        }
+    }
 }
 
 /// Opens the stores of a configuration's zones, each in its device, and serves them on each of its addresses
@@ -433,7 +511,10 @@ pub struct ServeOptions {
 /// and then `conn N open ADDRESS`, `conn N closed`, `out of memory` and `device ORIGIN` as they come. The
 /// lines of a turn are written when it ends. Of lines of connections at most 20 are written in a second; when
 /// it is over `N lines left out` is, and `N connections refused` for those that were closed for want of a
-/// slot. What was counted is told to `out`, if that is wanted: a line for each zone, and then one for the server.
+/// slot. What was counted is told to `out`, if that is wanted: a line for each zone, and then one for the
+/// server. If a script is wanted, each event of the machine is a line of it in `record`, as `replay` runs it,
+/// after a comment on each zone that is shown. If that can't be written, recording ends: then the log has the
+/// line `recording ended`, and serving goes on.
 ///
 /// Faults are reported in one line, the first in this order: the configuration, the devices (of which, if it
 /// is wanted, a second line says what can be done), the addresses (`ADDRESS: Unavailable`). Gives the exit
@@ -448,21 +529,18 @@ pub fn serve<
     R: Net + Clock + Logger,
     O: Write,
     E: Write,
+    W: Write,
 >(
-    alloc: Global,
-    heap: Heap,
-    rt: &R,
+    host: &Host<'_, R>,
     devices: &mut F,
     config: &File<'_>,
     options: ServeOptions,
-    out: &mut O,
-    err: &mut E,
+    streams: &mut Streams<O, E, W>,
 ) -> u8
     ensures { Calls (F.calls devices.old) (F.calls devices.new)
-        (λ calls. ServingEnds D.Sectors calls config.now options (E.contents err.old) (E.contents err.new)
-        result) }
+        (λ calls. ServingEnds D.Sectors calls config.now options
+        (texts_of O.contents E.contents W.contents streams.old)
+        (texts_of O.contents E.contents W.contents streams.new) result) }
 {
-    serve_all::<D, F, I, R, O, E>(alloc, heap, rt, devices, config, options, out, err).unwrap_or(
-        FAILED,
-    )
+    serve_all::<D, F, I, R, O, E, W>(host, devices, config, options, streams).unwrap_or(FAILED)
 }

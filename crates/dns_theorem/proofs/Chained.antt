@@ -1,5 +1,5 @@
 -- The versions of a zone: changes lead from each to the next.
-use Rattle.std.proofs.Common.{◌≡◌, ◌+◌, ◌≤◌, inl, inr, ℕ, zero, suc, Bool, true, false, not, List, [], ◌∷◌, ◌++◌, length, take, drop, Option, Some, None, refl, sym, ap, subst, ◌∙◌, arith, cond, append_assoc}
+use Rattle.std.proofs.Common.{◌≡◌, ◌≤◌, inl, inr, ℕ, zero, suc, Bool, true, false, not, List, [], ◌∷◌, ◌++◌, length, take, drop, Option, Some, None, refl, sym, ap, subst, ◌∙◌, arith, cond, append_assoc}
 use Rattle.std.specs.Prelude.{◌&&◌, ◌||◌, ◌==◌, filter, nat_lt, if◌then◌else◌}
 use Rattle.std.specs.List.{AllByRecursion}
 use Rattle.std.proofs.lemmas.Bool.Decides.{nat_tests}
@@ -19,7 +19,9 @@ use Rattle.dns_theorem.specs.Versions.{IsStep, LeadTo, EndAlike}
 use Rattle.dns_store.specs.Versions.{Shape, Versions, newest_after}
 use Rattle.dns_primary.specs.Machine.{Made, versions_of}
 use Rattle.dns_primary.specs.Transfer.{change_by, changes_along}
-use Rattle.dns_primary.specs.Runs.{IsHistory}
+use Rattle.dns_primary.specs.Runs.{IsAccepted, IsHistory}
+use Rattle.dns_theorem.specs.Headline.{IsSoundZone}
+use Rattle.dns_theorem.specs.Followed.{AreSoundVersions}
 
 -- ---- records that a zone can have
 valid_filter : (p : Record → Bool) (xs : List Record) → AllByRecursion IsRecord xs → AllByRecursion IsRecord (filter p xs)
@@ -106,10 +108,7 @@ few_valid apex records few e =
     e ∙ ap (λ b. if b then Some TooMany else None) none
 
 module _ (apex : Labels) (before after : List Record) (valid : IsZone (record { apex = apex; records = before })) (each : AllByRecursion IsRecord before)
-    (left : IsLeft (record { apex = apex; records = before }) after) (few : length after ≤ 65536) where
-  zone_after : IsZone (record { apex = apex; records = after })
-  zone_after = record { ordered = (left.version).ordered; each = (left.version).each; valid = few_valid apex after few (left.version).valid }
-
+    (sound : IsSoundZone (record { apex = apex; records = after })) (raised : greater (serial_in (soas after)) (serial_in (soas before)) ≡ true) where
   abbrev old_soa : Record
   old_soa = (zone_soa (record { apex = apex; records = before }) valid).soa
 
@@ -117,10 +116,10 @@ module _ (apex : Labels) (before after : List Record) (valid : IsZone (record { 
   old_one = (zone_soa (record { apex = apex; records = before }) valid).one
 
   abbrev new_soa : Record
-  new_soa = (zone_soa (record { apex = apex; records = after }) zone_after).soa
+  new_soa = (zone_soa (record { apex = apex; records = after }) sound.valid).soa
 
   new_one : soas after ≡ new_soa ∷ []
-  new_one = (zone_soa (record { apex = apex; records = after }) zone_after).one
+  new_one = (zone_soa (record { apex = apex; records = after }) sound.valid).one
 
   abbrev change : Change
   change = record { old_soa = old_soa; removed = only_in before after; new_soa = new_soa; added = only_in after before }
@@ -131,42 +130,70 @@ module _ (apex : Labels) (before after : List Record) (valid : IsZone (record { 
   step : IsStep before after change
   step = record {
     change = record { old_soa = old_one; new_soa = new_one; removed = refl; added = refl };
-    serial = (λ i. greater (serial_in (sym new_one i)) (serial_in (sym old_one i))) ∙ (left.version).serial;
+    serial = (λ i. greater (serial_in (sym new_one i)) (serial_in (sym old_one i))) ∙ raised;
   }
 
   change_valid : IsValidChange change
   change_valid = record {
     old_soa = (subst (AllByRecursion IsRecord) old_one (soas_valid before each)).0;
     removed = valid_filter (is_lone after) before each;
-    new_soa = (subst (AllByRecursion IsRecord) new_one (soas_valid after left.each)).0;
-    added = valid_filter (is_lone before) after left.each;
+    new_soa = (subst (AllByRecursion IsRecord) new_one (soas_valid after sound.each)).0;
+    added = valid_filter (is_lone before) after sound.each;
   }
 
-pub leads_on : (s : Shape) (n : ℕ) (before : List Record) (made : List Made) → IsZone (record { apex = s.apex; records = before }) → AllByRecursion IsRecord before
-    → IsHistory s n before made → AreSent made → Leads s.apex before (versions_of made)
-leads_on s n before [] valid each h sent = record { leads = (valid, refl); changes = tt; each = each }
-leads_on s n before (m ∷ later) valid each h sent =
-    let apex = s.apex in
-    let left = accepted (record { apex = apex; records = before }) valid each (m.update).answers (m.update).authorities sent.0 m.records (h.0).judged in
-    let few = (h.0).few in
-    let rest = leads_on s (suc n) m.records later (zone_after apex before m.records valid each left few) left.each h.1 sent.1 in
-    let c = change apex before m.records valid each left few in
-    let is = sym (change_is apex before m.records valid each left few) in
-    let cs = changes_along m.records (versions_of later) in
+-- changes lead along sound versions
+pub leads_on : (apex : Labels) (before : List Record) (vs : Versions) → IsZone (record { apex = apex; records = before }) → AllByRecursion IsRecord before → AreSoundVersions apex before vs
+    → Leads apex before vs
+leads_on apex before [] valid each h = record { leads = (valid, refl); changes = tt; each = each }
+leads_on apex before (v ∷ later) valid each h =
+    let rest = leads_on apex v later (h.0).valid (h.0).each h.2 in
+    let c = change apex before v valid each h.0 h.1 in
+    let is = sym (change_is apex before v valid each h.0 h.1) in
+    let cs = changes_along v later in
     record {
-      leads = subst (λ (first : List Change). LeadTo apex before (first ++ cs) (newest_after m.records (versions_of later))) is
-          (valid, m.records, step apex before m.records valid each left few, rest.leads);
-      changes = subst (λ (first : List Change). AllByRecursion IsValidChange (first ++ cs)) is (change_valid apex before m.records valid each left few, rest.changes);
+      leads = subst (λ (first : List Change). LeadTo apex before (first ++ cs) (newest_after v later)) is (valid, v, step apex before v valid each h.0 h.1, rest.leads);
+      changes = subst (λ (first : List Change). AllByRecursion IsValidChange (first ++ cs)) is (change_valid apex before v valid each h.0 h.1, rest.changes);
       each = rest.each;
     }
+
+-- what an update leaves that came as octets
+pub accepted_sound : (s : Shape) (n : ℕ) (before : List Record) (m : Made) → IsZone (record { apex = s.apex; records = before }) → AllByRecursion IsRecord before
+    → IsAccepted s n before m → AllByRecursion IsSent (m.update).authorities
+    → IsSoundZone (record { apex = s.apex; records = m.records }) × (greater (serial_in (soas m.records)) (serial_in (soas before)) ≡ true)
+accepted_sound s n before m valid each a sent =
+    let left : IsLeft (record { apex = s.apex; records = before }) m.records =
+    accepted (record { apex = s.apex; records = before }) valid each (m.update).answers (m.update).authorities sent m.records a.judged in (
+      record {
+        valid = record { ordered = (left.version).ordered; each = (left.version).each; valid = few_valid s.apex m.records a.few (left.version).valid };
+        each = left.each;
+      },
+      (left.version).serial,
+    )
+
+-- the versions that accepted updates left
+pub history_sound : (s : Shape) (n : ℕ) (before : List Record) (made : List Made) → IsZone (record { apex = s.apex; records = before }) → AllByRecursion IsRecord before
+    → IsHistory s n before made → AreSent made → AreSoundVersions s.apex before (versions_of made)
+history_sound s n before [] valid each h sent = tt
+history_sound s n before (m ∷ later) valid each h sent =
+    let one = accepted_sound s n before m valid each h.0 sent.0 in
+    (one.0, one.1, history_sound s (suc n) m.records later (one.0).valid (one.0).each h.1 sent.1)
+
+-- ---- parts of sound versions
+pub sound_front : (apex : Labels) (before : List Record) (xs ys : Versions) → AreSoundVersions apex before (xs ++ ys) → AreSoundVersions apex before xs
+sound_front apex before [] ys h = tt
+sound_front apex before (x ∷ xs) ys h = (h.0, h.1, sound_front apex x xs ys h.2)
+
+pub sound_pending : (apex : Labels) (before : List Record) (xs ys : Versions) → AreSoundVersions apex before (xs ++ ys) → AreSoundVersions apex (newest_after before xs) ys
+sound_pending apex before [] ys h = h
+sound_pending apex before (x ∷ xs) ys h = sound_pending apex x xs ys h.2
+
+pub sound_joined : (apex : Labels) (before : List Record) (xs ys : Versions) → AreSoundVersions apex before xs → AreSoundVersions apex (newest_after before xs) ys → AreSoundVersions apex before (xs ++ ys)
+sound_joined apex before [] ys g h = h
+sound_joined apex before (x ∷ xs) ys g h = (g.0, g.1, sound_joined apex x xs ys g.2 h)
 
 pub newest_joined : (from : List Record) (xs ys : Versions) → newest_after from (xs ++ ys) ≡ newest_after (newest_after from xs) ys
 newest_joined from [] ys = refl
 newest_joined from (x ∷ xs) ys = newest_joined x xs ys
-
-pub history_pending : (s : Shape) (n : ℕ) (before : List Record) (xs ys : List Made) → IsHistory s n before (xs ++ ys) → IsHistory s (n + length xs) (newest_after before (versions_of xs)) ys
-history_pending s n before [] ys h = subst (λ (k : ℕ). IsHistory s k before ys) (omega arith) h
-history_pending s n before (x ∷ xs) ys h = subst (λ (k : ℕ). IsHistory s k (newest_after x.records (versions_of xs)) ys) (omega arith) (history_pending s (suc n) x.records xs ys h.1)
 
 -- the changes from a number on are the last of all
 pub record Front (from : List Record) (vs : Versions) (k : ℕ) : Type 0 where

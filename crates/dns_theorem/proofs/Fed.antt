@@ -29,14 +29,15 @@ use Rattle.dns_secondary.specs.declared.fault.Fault.{Fault}
 use Rattle.dns_secondary.specs.declared.fault.Fault.TheVariants.{BadMessage, WrongId}
 use Rattle.dns_secondary.specs.declared.fault.Progress.{Progress}
 use Rattle.dns_secondary.specs.declared.fault.Progress.TheVariants.{More, Done, UpToDate, RetryTcp}
-use Rattle.dns_secondary.proofs.Asked.{asked, is_echoed, question_is, type_small}
+use Rattle.dns_secondary.proofs.Asked.{is_echoed, question_is, type_small}
 use Rattle.dns_secondary.proofs.Forms.{goes_of, taken_rest}
 use Rattle.dns_secondary.proofs.Mores.{held_of}
 use Rattle.dns_secondary.proofs.Shapes.{led_at}
 use Rattle.dns_secondary.proofs.Runs.{rest_of}
-use Rattle.dns_theorem.specs.Copies.{AllTellMore, FollowsInOrder, TransferIsFollowed, answer_for, serial_held}
+use Rattle.dns_theorem.specs.Copies.{AllTellMore, FollowsInOrder, IsFollowed, SendsAll, TransferIsFollowed, answer_for, serial_held}
+use Rattle.dns_theorem.specs.Versions.{LeadTo}
 use Rattle.dns_theorem.proofs.Forms.{Means, IsNewer, all_fit, back_again, is_good}
-use Rattle.dns_theorem.proofs.Sessions.{IsOpenedFor, opened_for, as_messages, only_sent}
+use Rattle.dns_theorem.proofs.Sessions.{IsOpenedFor, opened_for, sent_messages, only_sent}
 use Rattle.dns_secondary.proofs.Ends.{rest_once}
 use Rattle.dns_theorem.proofs.Prefixes.{only_current}
 
@@ -366,36 +367,35 @@ go_on h whole shown (first ∷ before) message pending s now question left f m o
     go_on h whole shown before message pending on.0 now None m.1
     (next_feeding s Tcp h question whole left shown f first (before ++ message ∷ pending) n.sent m.1 n.in_order (sent_of h question left first m.1 n) on.0 on.1) m.3 on.2
 
-pub transfer_is_followed : TransferIsFollowed
-transfer_is_followed s base kept shown before message pending now begun leads followed answers on = by s.transport refl
+-- A session that answers one who asked, whatever it repeats of the request.
+pub record IsSessionFor (s : Receiving) (kept : List Change) (shown : List Record) (sending : Sending) : Type 0 where
+  pub by : sending.transport ≡ s.transport
+  pub number : (sending.heading).id ≡ s.id
+  pub small : (sending.heading).id < 2 ^ 16
+  pub echoed : IfSome sending.question IsEchoed
+  pub asks : Asks s sending.question
+  pub soa : soas shown ≡ sending.soa ∷ []
+  pub left : sending.left ≡ answer_for s.held kept shown
+  pub each : AllByRecursion IsRecord sending.left
+
+pub session_is_followed : (s : Receiving) (base : List Record) (kept : List Change) (shown : List Record) (sending : Sending) → IsSessionFor s kept shown sending → s.state ≡ Some Begun
+    → LeadTo s.apex base kept shown → IsFollowed s.apex s.held kept shown → (before : List (List ℕ)) (message : List ℕ) (pending : List (List ℕ)) (now : Receiving)
+    → SendsAll sending (before ++ message ∷ pending) → (s.transport ≡ Udp → AllByRecursion (λ m. (header_of m).tc ≡ false) (before ++ message ∷ pending))
+    → AllTellMore s before now → FollowsInOrder now message pending shown
+session_is_followed s base kept shown sending opened begun leads followed before message pending now all not_cut on = by s.transport refl
   where
-    sending : Sending
-    sending = answers.sending
-
-    whole : List Record
-    whole = answer_for s.held kept shown
-
-    h : Heading
-    h = record { id = s.id; rd = false }
-
-    question : Option EchoedQuestion
-    question = Some (asked (question_asked s.apex s.held))
-
-    opened : IsOpenedFor s.transport s.apex s.held s.id kept shown sending
-    opened = opened_for s.transport s.apex s.held s.id kept shown sending answers.named followed answers.opened
-
-    feeding : (transport : Transport) → s.transport ≡ transport → Feeding s transport h question whole whole shown
+    feeding : (transport : Transport) → s.transport ≡ transport → Feeding s transport sending.heading sending.question sending.left sending.left shown
     feeding transport by =
         let good = is_good s.apex s.held base kept shown leads followed in
         record {
           by = by;
-          number = refl;
-          small = answers.number;
-          echoed = is_echoed (question_asked s.apex s.held) answers.named;
-          asks = question_is (question_asked s.apex s.held) (type_small s.held) (omega arith);
-          means = good.means;
-          newer = good.newer;
-          each = subst (AllByRecursion IsRecord) opened.left answers.each;
+          number = opened.number;
+          small = opened.small;
+          echoed = opened.echoed;
+          asks = opened.asks;
+          means = subst (λ (xs : List Record). Means s.apex s.held xs shown) (sym opened.left) good.means;
+          newer = subst (IsNewer s.held) (sym opened.left) good.newer;
+          each = opened.each;
           done = [];
           parts = refl;
           at = Begun;
@@ -405,23 +405,40 @@ transfer_is_followed s base kept shown before message pending now begun leads fo
 
     by_tcp : s.transport ≡ Tcp → FollowsInOrder now message pending shown
     by_tcp tcp =
-        go_on h whole shown before message pending s now question whole (feeding Tcp tcp)
-        (as_messages s.apex s.held s.id kept shown sending (subst (λ t. IsOpenedFor t s.apex s.held s.id kept shown sending) tcp opened)
-        (before ++ message ∷ pending) answers.all) on
+        go_on sending.heading sending.left shown before message pending s now sending.question sending.left (feeding Tcp tcp)
+        (sent_messages sending (before ++ message ∷ pending) (opened.by ∙ tcp) all) on
 
     by_udp : s.transport ≡ Udp → FollowsInOrder now message pending shown
     by_udp udp =
-        let one = only_sent sending before message pending (opened.by ∙ udp) answers.all in
+        let one = only_sent sending before message pending (opened.by ∙ udp) all in
         let is : now ≡ s = subst (λ (ms : List (List ℕ)). AllTellMore s ms now) one.first on in
-        let uncut = answers.not_cut udp in
+        let uncut = not_cut udp in
         let tc : (header_of message).tc ≡ false =
         (subst (λ (ms : List (List ℕ)). AllByRecursion (λ m. (header_of m).tc ≡ false) (ms ++ message ∷ pending)) one.first uncut).0 in
-        let datagram : message ≡ datagram_of h question whole sending.soa =
-        one.is ∙ (λ i. datagram_of (opened.heading i) (opened.question i) (opened.left i) sending.soa) in
+        let led = led_by shown kept (serial_held s.held) sending.soa opened.soa in
         subst (λ (r : Receiving). FollowsInOrder r message pending shown) (sym is)
-        (datagram_followed s h question whole shown sending.soa message pending (feeding Udp udp) refl one.last
-        (led_by shown kept (serial_held s.held) sending.soa opened.soa) datagram tc)
+        (datagram_followed s sending.heading sending.question sending.left shown sending.soa message pending (feeding Udp udp) refl one.last
+        (led.0, opened.left ∙ led.1) one.is tc)
 
     by : (transport : Transport) → s.transport ≡ transport → FollowsInOrder now message pending shown
     by Tcp e = by_tcp e
     by Udp e = by_udp e
+
+pub transfer_is_followed : TransferIsFollowed
+transfer_is_followed s base kept shown before message pending now begun leads followed answers on =
+    session_is_followed s base kept shown sending (record {
+      by = opened.by;
+      number = ap (λ (h : Heading). h.id) opened.heading;
+      small = subst (λ (h : Heading). h.id < 2 ^ 16) (sym opened.heading) answers.number;
+      echoed = subst (λ (o : Option EchoedQuestion). IfSome o IsEchoed) (sym opened.question) (is_echoed (question_asked s.apex s.held) answers.named);
+      asks = subst (Asks s) (sym opened.question) (question_is (question_asked s.apex s.held) (type_small s.held) (omega arith));
+      soa = opened.soa;
+      left = opened.left;
+      each = answers.each;
+    }) begun leads followed before message pending now answers.all answers.not_cut on
+  where
+    sending : Sending
+    sending = answers.sending
+
+    opened : IsOpenedFor s.transport s.apex s.held s.id kept shown sending
+    opened = opened_for s.transport s.apex s.held s.id kept shown sending answers.named followed answers.opened

@@ -10,3 +10,10 @@ pub mod Chained
 pub mod Read
 pub mod Followed
 pub mod MessagesRead
+pub mod Grown
+pub mod Lived
+pub mod Shown
+pub mod Requests
+pub mod FollowedThroughLife
+pub mod Tended
+pub mod LivesBounded

@@ -29,10 +29,15 @@ use Rattle.dns_primary.proofs.Continued.{run_goes, step_opened}
 use Rattle.dns_primary.proofs.Stopping.{fresh_keeps, resumed_keeps}
 use Rattle.dns_theorem.specs.Copies.{SendsAll}
 use Rattle.dns_theorem.specs.Headline.{AreOctetsIn, IsSoundState, BeginsLoaded, BeginsResumed, IsGivenOut, pumped_in}
-use Rattle.dns_theorem.specs.Messages.{ReadsAsSent, TransfersAreRead}
+use Rattle.dns_theorem.specs.Lives.{end_of}
+use Rattle.dns_theorem.specs.Messages.{ReadsAsSent, TransfersAreRead, TransfersAreReadThroughLife}
+use Rattle.dns_theorem.proofs.FollowedThroughLife.{known_since}
 use Rattle.dns_theorem.proofs.Chained.{transfer_valid}
 use Rattle.dns_theorem.proofs.Fed.{all_front, valid_reply}
-use Rattle.dns_theorem.proofs.Followed.{IsKnown, known_each, named_found, loaded_soundly, promise_goes, run_parts, some_left, whole, kept, kept_valid}
+use Rattle.dns_theorem.specs.Followed.{HasSoundVersions}
+use Rattle.dns_theorem.proofs.Followed.{known_each, loaded_soundly, promise_goes, run_parts}
+use Rattle.dns_theorem.proofs.Requests.{some_left}
+use Rattle.dns_theorem.proofs.Shown.{named_found, whole, kept, kept_valid}
 use Rattle.dns_theorem.proofs.Given.{given_all}
 use Rattle.dns_theorem.proofs.Read.{transfer_read}
 
@@ -61,23 +66,16 @@ sends_read s (message ∷ messages) tcp small asked each (some, next, sends, all
       answers = ap (λ (rs : List Record). n.sent ++ rs) later.answers ∙ sym n.in_order;
     }
 
-module _ (start : Machine) (earlier later : List Moment) (number : ℕ) (octets : List ℕ) (fails : List Bool)
-    (effects : Effects) (opened : Machine) (sending : Sending)
-    (sound : AllByRecursion IsSoundState start.zones)
-    (goes : Continuation start earlier)
-    (run : Run start (earlier ++ Took (Arrives number octets) fails effects opened ∷ later))
-    (before : AllByRecursion AreOctetsIn earlier)
+-- of a machine whose zones have sound versions
+module _ (now : Machine) (later : List Moment) (number : ℕ) (octets : List ℕ) (fails : List Bool) (effects : Effects) (opened : Machine) (sending : Sending)
+    (sound : AllByRecursion HasSoundVersions now.zones)
+    (step : Step fails now (Arrives number octets) effects opened)
+    (run : Run opened later)
     (came : AllByRecursion (λ octet. octet < 256) octets)
-    (free : sending_at number (last_of start earlier).connections ≡ None)
+    (free : sending_at number now.connections ≡ None)
     (opens : sending_at number opened.connections ≡ Some sending) where
-  abbrev now : Machine
-  now = last_of start earlier
-
-  rest_run : Step fails now (Arrives number octets) effects opened × Run opened later
-  rest_run = (run_parts start earlier (Took (Arrives number octets) fails effects opened ∷ later) run).1
-
   on : OpensOn now number (Arrives number octets) sending
-  on = step_opened number fails now (Arrives number octets) effects opened sending free opens rest_run.0
+  on = step_opened number fails now (Arrives number octets) effects opened sending free opens step
 
   these : on.octets ≡ octets
   these = (let e = on.arrives in cc)
@@ -91,8 +89,8 @@ module _ (start : Machine) (earlier later : List Moment) (number : ℕ) (octets 
   reads : Reads on.octets on.message
   reads = message_stands on.octets on.message (as_octets on.octets octal) read.0
 
-  known : IsKnown on.zone
-  known = named_found IsKnown (on.question).name now.zones on.zone (known_each start earlier start.zones now.zones before sound goes.loaded goes.history goes.came) on.named
+  known : HasSoundVersions on.zone
+  known = named_found HasSoundVersions (on.question).name now.zones on.zone sound on.named
 
   abbrev shown : List Record
   shown = shown_of (kept_of on.zone)
@@ -111,20 +109,42 @@ module _ (start : Machine) (earlier later : List Moment) (number : ℕ) (octets 
   asked = subst (λ (q : Option EchoedQuestion). IfSome q IsEchoed) (sym (on.opened).question) (echoed on.octets (as_octets on.octets octal) on.message on.question reads read.1)
 
   goes_on : Continues number later (Some sending)
-  goes_on = subst (λ (o : Option Sending). Continues number later o) opens (run_goes number later opened (sending_at number opened.connections) refl rest_run.1)
+  goes_on = subst (λ (o : Option Sending). Continues number later o) opens (run_goes number later opened (sending_at number opened.connections) refl run)
 
-  are_read : IsGivenOut number (Some sending) later → ReadsAsSent sending (pumped_in number later)
+  pub are_read : IsGivenOut number (Some sending) later → ReadsAsSent sending (pumped_in number later)
   are_read given =
       sends_read sending (pumped_in number later) (on.opened).by small asked each
       (given_all number later sending (some_left sending (kept on.zone known) shown client (on.opened).soa (on.opened).left) goes_on given)
 
+-- in a run of a machine whose zones are sound
+read_from : (start : Machine) (earlier later : List Moment) (number : ℕ) (octets : List ℕ) (fails : List Bool) (effects : Effects) (opened : Machine) (sending : Sending)
+    → AllByRecursion IsSoundState start.zones
+    → Continuation start earlier
+    → Run start (earlier ++ Took (Arrives number octets) fails effects opened ∷ later)
+    → AllByRecursion AreOctetsIn earlier
+    → AllByRecursion (λ octet. octet < 256) octets
+    → sending_at number (last_of start earlier).connections ≡ None
+    → sending_at number opened.connections ≡ Some sending
+    → IsGivenOut number (Some sending) later
+    → ReadsAsSent sending (pumped_in number later)
+read_from start earlier later number octets fails effects opened sending sound goes run before came free opens given =
+    let now = last_of start earlier in
+    let rest_run = (run_parts start earlier (Took (Arrives number octets) fails effects opened ∷ later) run).1 in
+    are_read now later number octets fails effects opened sending (known_each start earlier start.zones now.zones before sound goes.loaded goes.history goes.came) rest_run.0 rest_run.1 came free opens given
+
 pub loaded_are_read : TransfersAreRead BeginsLoaded
 loaded_are_read start earlier later number octets fails effects opened sending (zones, settings, sound, fresh) run before came free opens given =
     let first = (run_parts start earlier (Took (Arrives number octets) fails effects opened ∷ later) run).0 in
-    are_read start earlier later number octets fails effects opened sending (loaded_soundly zones settings start.zones sound fresh.zones_are)
+    read_from start earlier later number octets fails effects opened sending (loaded_soundly zones settings start.zones sound fresh.zones_are)
     (promise_goes start earlier first (fresh_keeps zones settings start earlier fresh first)) run before came free opens given
 
 pub resumed_are_read : TransfersAreRead BeginsResumed
 resumed_are_read start earlier later number octets fails effects opened sending (held, sound, resumed) run before came free opens given =
     let first = (run_parts start earlier (Took (Arrives number octets) fails effects opened ∷ later) run).0 in
-    are_read start earlier later number octets fails effects opened sending sound (resumed_keeps held start earlier resumed first) run before came free opens given
+    read_from start earlier later number octets fails effects opened sending sound (resumed_keeps held start earlier resumed first) run before came free opens given
+
+-- and in a life
+pub lives_are_read : TransfersAreReadThroughLife
+lives_are_read start before later number octets fails effects opened sending begins life sound run came free opens given =
+    let since = known_since start [] before begins life sound in
+    are_read (end_of start before) later number octets fails effects opened sending since.sound run.0 run.1 came free opens given

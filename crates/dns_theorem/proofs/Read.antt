@@ -76,3 +76,16 @@ pub transfer_read : (zones : List Zone) (octets : List ℕ) (transport : Transpo
     → (message_of octets ≡ Some m) × (m.questions ≡ q ∷ [])
 transfer_read zones octets transport came m q e =
     subst (IsFrom (message_of octets)) (as_transfer zones octets transport (request_of octets transport) came m q e) (request_from octets transport (message_of octets))
+
+came_as : (zones : List Zone) (octets : List ℕ) (transport : Transport) (r : Request) (came : List ℕ) (m : Message) (q : Question) → handled_as zones octets transport r ≡ Transfer came m q
+    → came ≡ octets
+came_as zones octets transport request.Ignored came m q e = absurd cc
+came_as zones octets transport (request.Refused rcode) came m q e = absurd cc
+came_as zones octets transport (request.NotServed n p rcode) came m q e = absurd cc
+came_as zones octets transport (request.Query n p) came m q e = absurd cc
+came_as zones octets transport (request.Update n p) came m q e = absurd cc
+came_as zones octets transport (request.Transfer n p) came m q e = cc
+
+-- what is taken as a request for a transfer are the octets that came
+pub transfer_came : (zones : List Zone) (octets : List ℕ) (transport : Transport) (came : List ℕ) (m : Message) (q : Question) → handled zones octets transport ≡ Transfer came m q → came ≡ octets
+transfer_came zones octets transport came m q e = came_as zones octets transport (request_of octets transport) came m q e

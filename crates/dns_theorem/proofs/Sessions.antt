@@ -59,13 +59,13 @@ client_is apex z valid =
     ∙ ap (λ b. option_map (λ (i : ResourceRecord). serial_of (record_of_item i)) (if b then Some (item_of h.soa) else None)) client
     ∙ ap (λ (rs : List Record). Some (serial_in rs)) (sym h.one)
 
-serial_is : (apex : Labels) (held : Option Zone) (kept : List Change) (shown : List Record) → IsFollowed apex held kept shown
+pub serial_is : (apex : Labels) (held : Option Zone) (kept : List Change) (shown : List Record) → IsFollowed apex held kept shown
     → serial_asked (question_asked apex held) (client_serial (question_asked apex held) (map item_of (soas_held held))) ≡ serial_held held
 serial_is apex None kept shown f = refl
 serial_is apex (Some z) kept shown f = client_is apex z (first_zone apex z.records f.0 shown f.1)
 
 -- the question of a request as it is repeated
-echo_is : (apex : Labels) (held : Option Zone) (id : ℕ) → echo_of (request_octets apex held id) (question_asked apex held) ≡ asked (question_asked apex held)
+pub echo_is : (apex : Labels) (held : Option Zone) (id : ℕ) → echo_of (request_octets apex held id) (question_asked apex held) ≡ asked (question_asked apex held)
 echo_is apex held id =
     let q = question_asked apex held in
     let rest = compressed_records (new_places [] 12 q.name) (12 + length (asked_octets q)) (soas_held held) in
@@ -97,7 +97,7 @@ opened_for transport apex held id kept shown s named f opened = record {
 }
 
 -- what a session sends are the messages of its records
-sent_messages : (s : Sending) (messages : List (List ℕ)) → s.transport ≡ Tcp → SendsAll s messages → AreMessages s.heading s.question s.left messages
+pub sent_messages : (s : Sending) (messages : List (List ℕ)) → s.transport ≡ Tcp → SendsAll s messages → AreMessages s.heading s.question s.left messages
 sent_messages s [] by all = all
 sent_messages s (message ∷ messages) by all =
     let next = all.1 in
@@ -113,14 +113,6 @@ sent_messages s (message ∷ messages) by all =
       subst (λ (h : Heading). AreMessages h None next.left messages) heading
           (subst (λ (o : Option EchoedQuestion). AreMessages next.heading o next.left messages) question more),
     )
-
-pub as_messages : (apex : Labels) (held : Option Zone) (id : ℕ) (kept : List Change) (shown : List Record) (s : Sending) → IsOpenedFor Tcp apex held id kept shown s
-    → (messages : List (List ℕ)) → SendsAll s messages
-    → AreMessages (record { id = id; rd = false }) (Some (asked (question_asked apex held))) (answer_for held kept shown) messages
-as_messages apex held id kept shown s o messages all =
-    subst (λ (xs : List Record). AreMessages (record { id = id; rd = false }) (Some (asked (question_asked apex held))) xs messages) o.left
-    (subst (λ (q : Option EchoedQuestion). AreMessages (record { id = id; rd = false }) q s.left messages) o.question
-    (subst (λ (h : Heading). AreMessages h s.question s.left messages) o.heading (sent_messages s messages o.by all)))
 
 -- by UDP there is one message
 nothing_sent : (s : Sending) (messages : List (List ℕ)) → s.left ≡ [] → SendsAll s messages → messages ≡ []

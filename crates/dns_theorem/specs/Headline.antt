@@ -1,5 +1,5 @@
 -- A transfer in a run of the machine: who asks for it, what it gives out, and what that comes to.
-use Rattle.std.specs.Prelude.{◌≡◌, ◌<◌, ◌^◌, ℕ, Bool, ◌==◌, List, [], ◌∷◌, ◌++◌, drop, length}
+use Rattle.std.specs.Prelude.{◌≡◌, ◌⊎◌, ◌<◌, ◌^◌, ℕ, Bool, ◌==◌, List, [], ◌∷◌, ◌++◌, drop, length}
 use Rattle.std.specs.Prelude.{Option, Some, None, if◌then◌else◌}
 use Rattle.std.specs.List.{AllByRecursion, flat_map}
 use Rattle.dns_names.specs.Name.{Labels, IsName}
@@ -9,10 +9,11 @@ use Rattle.dns_changes.specs.Change.{Change}
 use Rattle.dns_wire.specs.Message.{Message}
 use Rattle.dns_wire.specs.Reads.{Reads}
 use Rattle.dns_transfer.specs.Form.{advances}
+use Rattle.dns_transfer.specs.Refusal.{client_serial, serial_asked}
 use Rattle.dns_transfer.specs.Session.{Sending}
 use Rattle.dns_request.specs.declared.request.Transport.TheVariants.{Tcp}
 use Rattle.dns_secondary.specs.Receiving.{Receiving}
-use Rattle.dns_secondary.specs.Request.{request_octets}
+use Rattle.dns_secondary.specs.Request.{question_asked, request_octets}
 use Rattle.dns_secondary.specs.State.{Begun}
 use Rattle.dns_theorem.specs.Copies as copies
 use Rattle.dns_theorem.specs.Copies.{FollowsInOrder}
@@ -70,10 +71,28 @@ pub record Asks (s : Receiving) (earlier now : Machine) : Type 0 where
   pub begun : s.state ≡ Some Begun
   pub held : IsHeldOf s.apex earlier now s.held
 
+-- Octets that are a message with the number of the request and with its question, and that tell the serial of
+-- the version that is held, where changes of it are asked for. The name may come in any case, RD may be set,
+-- and there may be additional records.
+pub record IsRequestFor (s : Receiving) (octets : List ℕ) : Type 0 where
+  pub octal : AllByRecursion (λ octet. octet < 256) octets
+  pub message : Message
+  pub reads : Reads octets message
+  pub number : message.header.id ≡ s.id
+  pub question : message.questions ≡ question_asked s.apex s.held ∷ []
+  pub serial : serial_asked (question_asked s.apex s.held)
+      (client_serial (question_asked s.apex s.held) message.authorities) ≡ copies.serial_held s.held
+
+-- The octets of the request itself, or such ones.
+abbrev pub AsksBy : Receiving → List ℕ → Type 0
+AsksBy s octets = (octets ≡ request_octets s.apex s.held s.id) ⊎ IsRequestFor s octets
+
 -- The request comes on a connection, on which no transfer was open, and opens one.
 pub record OpensFor (s : Receiving) (number : ℕ) (old : Machine) (event : Event) (new : Machine)
     (sending : Sending) : Type 0 where
-  pub comes : event ≡ Arrives number (request_octets s.apex s.held s.id)
+  pub octets : List ℕ
+  pub asks : AsksBy s octets
+  pub comes : event ≡ Arrives number octets
   pub none : sending_at number old.connections ≡ None
   pub opens : sending_at number new.connections ≡ Some sending
 

@@ -1,6 +1,6 @@
 -- The commands over the files that their words name.
 use Rattle.std.specs.Prelude.{◌≡◌, ◌⊎◌, ℕ, Bool, true, false, List, [], ◌∷◌, map, Option, Some, None, Result}
-use Rattle.std.specs.Prelude.{IfOk, MatchResult}
+use Rattle.std.specs.Prelude.{IfOk, MatchResult, is_some}
 use Rattle.std.specs.Option.{option_copied}
 use Rattle.std.specs.List.{AllZip}
 use Rattle.dns_sectors.specs.declared.device.Sectors.{Ghosts}
@@ -90,5 +90,6 @@ options_of words explain = record {
   is_quiet = words.quiet;
   count_every = words.count_every;
   log_level = words.log_level;
+  is_recorded = is_some words.record;
   explain = explain;
 }

@@ -27,7 +27,7 @@ pub enum Task<'a> {
     Migrate(&'a str),
     /// `verify CONFIG [ORIGIN] [--every-sector]`
     Verify(Verifying<'a>),
-    /// `serve CONFIG --turns N [--quiet] [--count-every SECONDS] [--log-level LEVEL]`
+    /// `serve CONFIG --turns N [--quiet] [--count-every SECONDS] [--log-level LEVEL] [--record FILE]`
     Serve(Serving<'a>),
     /// `fetch ADDRESS:PORT ORIGIN [--since FILE] [--seconds N]`
     Fetch(Fetching<'a>),
@@ -115,6 +115,8 @@ pub struct Serving<'a> {
     pub count_every: u64,
     /// Of which levels diagnostic lines are logged.
     pub log_level: LevelFilter,
+    /// The file to which the script of what happens is appended, if there is to be one.
+    pub record: Option<&'a str>,
 }
 
 /// The words of `fetch`.
@@ -363,12 +365,18 @@ fn serve_command<'a>(alloc: Global) -> Result<Command<'a>, Error> {
         .help(
             "Logs why requests are refused and connections closed, and checkpoints (debug); each request (trace)",
         );
+    let record = Arg::new(alloc, "record")
+        .long("record")
+        .value_name("FILE")
+        .action(ArgAction::Set)
+        .help("Appends each event to a file, as a line of a script that replay runs");
     Ok(
         command
             .arg(turns)?
             .arg(quiet)?
             .arg(count_every)?
-            .arg(log_level)?,
+            .arg(log_level)?
+            .arg(record)?,
     )
 }
 
@@ -546,6 +554,7 @@ fn serve_words<'a>(inner: &ArgMatches<'a>) -> Words<'a> {
         quiet: inner.get_flag("quiet"),
         count_every,
         log_level,
+        record: inner.get_str("record"),
     };
     task_words(inner, Task::Serve(serving))
 }

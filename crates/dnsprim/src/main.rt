@@ -7,6 +7,7 @@ mod commands;
 mod explaining;
 mod lines;
 mod logged_system;
+mod record_file;
 mod system;
 mod tasks;
 mod terminal;
@@ -27,7 +28,8 @@ fn tell_usage(rt: &HostRuntime) -> io::Result<u8> {
 dump CONFIG ORIGIN [--serial M] | diff CONFIG ORIGIN FROM [TO] [--as-update] | \
 history CONFIG ORIGIN [--records] | load CONFIG ORIGIN [--dry-run] | migrate CONFIG | \
 verify CONFIG [ORIGIN] [--every-sector] | \
-serve CONFIG --turns N|unlimited [--quiet] [--count-every SECONDS] [--log-level LEVEL] | \
+serve CONFIG --turns N|unlimited [--quiet] [--count-every SECONDS] [--log-level LEVEL] \
+[--record FILE] | \
 fetch ADDRESS:PORT ORIGIN [--since FILE] [--seconds N] [--explain]"
     )?;
     Ok(USAGE)

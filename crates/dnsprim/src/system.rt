@@ -7,9 +7,10 @@ use crate::commands::Commands;
 use crate::explaining::Explainer;
 use crate::lines::Lines;
 use crate::logged_system::LoggedSystem;
+use crate::record_file::RecordFile;
 use crate::tasks::{
-    FetchRun, check_file, check_files, diff_file, dump_file, fetch_zone, history_file, init_files,
-    load_files, migrate_file, replay_files, serve_file, verify_file,
+    FetchRun, ServeRun, check_file, check_files, diff_file, dump_file, fetch_zone, history_file,
+    init_files, load_files, migrate_file, replay_files, serve_file, verify_file,
 };
 use crate::terminal::Terminal;
 use dns_commands::{Folder, Run};
@@ -18,6 +19,7 @@ use dns_devices::Disk;
 use dns_fetch::{Tcp, TcpSocket};
 use dns_memory::Heap;
 use dns_sectors::{DiskFile, FileSectors};
+use dns_service::{Host, Streams};
 use std::io::{self, BufWriter, Write};
 
 /// The device of a zone: a file of the system.
@@ -206,15 +208,28 @@ impl Commands for System<'_> {
     }
 
     fn serve(&mut self, words: Serving<'_>, explain: bool) -> io::Result<u8> {
-        let rt = self.rt;
-        let (out, err) = (Lines::to_output(rt), Lines::to_errors(rt));
-        let mut run = self.run(explain, Disk(rt), out, err);
+        let (rt, heap) = (self.rt, self.heap);
         let logged = LoggedSystem {
             rt: *rt,
             level: words.log_level,
         };
-        let mut files = self.files();
-        let status = serve_file::<_, Device, _, _, _, _>(&logged, &mut files, &mut run, words)?;
+        let host = Host {
+            alloc: rt.alloc(),
+            heap,
+            rt: &logged,
+        };
+        let streams = Streams {
+            out: Lines::to_output(rt),
+            err: Lines::to_errors(rt),
+            record: RecordFile::new(rt, words.record),
+        };
+        let mut run = ServeRun {
+            host,
+            explain,
+            devices: Disk(rt),
+            streams,
+        };
+        let status = serve_file::<_, Device, _, _, _, _, _>(&mut self.files(), &mut run, words)?;
         if explain && status == REFUSED {
             self.explainer().configuration(words.config)?;
         }

@@ -16,6 +16,7 @@ ghost use Rattle.dns_commands.specs.Verify.{VerifyEnds};
 ghost use Rattle.dns_fetch.specs.Connecting.{ConnectsOnce, IsReached};
 ghost use Rattle.dns_fetch.specs.Fetch.{FetchEnds};
 ghost use Rattle.dns_service.specs.Serve.{ServingEnds};
+ghost use Rattle.dns_service.specs.Telling.{texts_of};
 ghost use Rattle.dnsprim.specs.Tasks.{Dumps, Loads, ReadsAll, ReadsAlone, ReadsScript, ReadsSince};
 ghost use Rattle.dnsprim.specs.Tasks.{options_of};
 
@@ -33,7 +34,7 @@ use dns_fetch::{Servers, WaitingStream, Watch, fetch};
 use dns_memory::Heap;
 use dns_replay::ScriptDevice;
 use dns_sectors::{MemorySectors, Sectors};
-use dns_service::{ServeOptions, serve};
+use dns_service::{Host, ServeOptions, Streams, serve};
 use std::alloc::{AllocError, Global};
 use std::io::{self, Write};
 use std::net::Net;
@@ -278,20 +279,33 @@ pub fn verify_file<N: Inputs, D: Sectors + Drop, F: DevicesToRead<D>, W: Write, 
     Ok(verify::<D, F, Index, W, E>(run, &config, words.origin, words.every_sector))
 }
 
+/// What `serve` runs with: memory and the system, devices by their paths, and where it prints, reports and
+/// records.
+#[derive(Drop)]
+pub struct ServeRun<'a, R, F, O, E, W> {
+    pub host: Host<'a, R>,
+    /// Whether a second line of an error says what can be done.
+    pub explain: bool,
+    pub devices: F,
+    pub streams: Streams<O, E, W>,
+}
+
 /// Serves, and returns the exit status.
 pub fn serve_file<
     N: Inputs,
     D: Sectors + Drop,
     F: Devices<D>,
     R: Net + Clock + Logger,
-    W: Write,
+    O: Write,
     E: Write,
->(rt: &R, inputs: &mut N, run: &mut Run<F, W, E>, words: Serving<'_>) -> io::Result<u8>
+    W: Write,
+>(inputs: &mut N, run: &mut ServeRun<'_, R, F, O, E, W>, words: Serving<'_>) -> io::Result<u8>
     ensures { Calls (N.reads inputs.old) (N.reads inputs.new) (λ reads.
         ReadsAlone reads words.entry.config.now result (λ config status.
         Calls (F.calls run.old.devices) (F.calls run.new.devices) (λ calls.
         ServingEnds D.Sectors calls config (options_of words.entry run.old.explain)
-        (E.contents run.old.err) (E.contents run.new.err) status))) }
+        (texts_of O.contents E.contents W.contents run.old.streams)
+        (texts_of O.contents E.contents W.contents run.new.streams) status))) }
 {
     let text = inputs.octets(words.config)?;
     let config = file(words.config, &text);
@@ -300,17 +314,15 @@ pub fn serve_file<
         is_quiet: words.quiet,
         count_every: words.count_every,
         log_level: words.log_level,
+        is_recorded: words.record.is_some(),
         explain: run.explain,
     };
-    Ok(serve::<D, F, Index, R, W, E>(
-        run.alloc,
-        run.heap,
-        rt,
+    Ok(serve::<D, F, Index, R, O, E, W>(
+        &run.host,
         &mut run.devices,
         &config,
         options,
-        &mut run.out,
-        &mut run.err,
+        &mut run.streams,
     ))
 }
 

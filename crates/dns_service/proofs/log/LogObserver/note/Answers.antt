@@ -1,4 +1,6 @@
-use Rattle.std.proofs.Common.{Option, List, ℕ, sym, subst}
+use Rattle.std.proofs.Common.{Option, List, ℕ, sym, subst, ◌∙◌}
+use Rattle.dns_network.specs.Notes.{OfNote}
+use Rattle.dns_service.proofs.Observed.{counted_once}
 use Rattle.std.specs.Io.KnownBytes.{Appends, append_known}
 use Rattle.dns_service.specs.Log.{said_of}
 use Rattle.dns_service.proofs.Said.{said_more}
@@ -10,6 +12,7 @@ returns g c =
     let old = c.args.self.now in
     let new = c.take.new.self in
     let said = said_of old.is_quiet old.origins.now old.counts c.args.note in (
+      c.take.ensures.counting ∙ counted_once old.counting _ (OfNote c.args.note) c.note.ensures.on c.note.ensures.counted,
       c.take.ensures.same_reference,
       c.take.ensures.origins,
       c.take.ensures.quiet,

@@ -1,5 +1,7 @@
 use Rattle.std.proofs.Common.{◌≡◌, true, false, refl, sym, ◌∙◌}
+use Rattle.dns_network.specs.Notes.{OfEvent}
 use Rattle.dns_primary.specs.Steps.{event_shown}
+use Rattle.dns_service.proofs.Observed.{counted_once}
 use Rattle.dns_service.specs.Log.{logged}
 use Rattle.dns_service.proofs.Observed.{event_reported, quiet_said, silent_said}
 use Rattle.dns_service.proofs.log.LogObserver.observe.Goals as goal
@@ -8,6 +10,7 @@ pub returns-then-is_quiet : goal.returns-then-is_quiet
 returns-then-is_quiet g c =
     let old = c.args.self.now in
     let log = logged (g.E.Write.contents old.err.now) old.lines.now.items old.counts old.addresses.now.items old.transfers.now.items in (
+      counted_once old.counting _ (OfEvent (event_shown c.args.event) c.args.effects.now) c.observe.ensures.on c.observe.ensures.counted,
       refl,
       refl,
       refl,
@@ -21,6 +24,7 @@ pub returns-then-is_silent : goal.returns-then-is_silent
 returns-then-is_silent g c =
     let old = c.args.self.now in
     let log = logged (g.E.Write.contents old.err.now) old.lines.now.items old.counts old.addresses.now.items old.transfers.now.items in (
+      counted_once old.counting _ (OfEvent (event_shown c.args.event) c.args.effects.now) c.observe.ensures.on c.observe.ensures.counted,
       refl,
       refl,
       refl,
@@ -39,6 +43,7 @@ returns g c =
     let old = c.args.self.now in
     let new = c.report.new.self in
     let text = g.E.Write.contents in (
+      c.report.ensures.counting ∙ counted_once old.counting _ (OfEvent (event_shown c.args.event) c.args.effects.now) c.observe.ensures.on c.observe.ensures.counted,
       c.report.ensures.same_reference,
       c.report.ensures.origins,
       c.report.ensures.quiet,

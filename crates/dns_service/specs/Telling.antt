@@ -1,0 +1,83 @@
+-- What a server tells of its turns: its log, and a script and counts if they are wanted.
+use Rattle.std.specs.Prelude.{◌≡◌, ◌⊎◌, ℕ, Bool, true, false, List, ◌∷◌, ◌++◌, Option}
+use Rattle.std.specs.Io.KnownBytes.{Appends}
+use Rattle.std.specs.declared.net.socket_addr.SocketAddr.{SocketAddr}
+use Rattle.dns_names.specs.Name.{Labels}
+use Rattle.dns_primary.specs.Machine.{Machine}
+use Rattle.dns_network.specs.declared.network.Note.TheVariants.{Unrecorded}
+use Rattle.dns_network.specs.declared.network.Observer.{Ghosts}
+use Rattle.dns_network.specs.Notes.{AreReported, Report, OfNote}
+use Rattle.dns_network.specs.Reports.{AreReportsOfTurns}
+use Rattle.dns_network.specs.Turn.{TurnMoment}
+use Rattle.dns_recording.specs.Recorder.{unstirred}
+use Rattle.dns_recording.specs.Script.{script_of, zone_comments}
+use Rattle.dns_service.specs.Counting.{AreCountsOf}
+use Rattle.dns_service.specs.Log.{IsLogOf}
+use Rattle.dns_service.specs.declared.server.Service.{Service}
+use Rattle.dns_service.specs.declared.server.Streams.{Streams}
+
+-- The recording ended at some moment, and that was told once, there.
+pub record IsRecordingOver (reports told : List Report) : Type 0 where
+  pub before : List Report
+  pub after : List Report
+  pub reported : reports ≡ before ++ after
+  pub and_told : told ≡ before ++ OfNote Unrecorded ∷ after
+
+-- A script of reports comes after all that its file held: comments, and then the lines of all of them, in
+-- order. Or the recording ended. Where none is wanted the file stays as it is. These reports are told.
+abbrev pub IsScriptOf : Bool → List ℕ → Option (List ℕ) → Option (List ℕ) → List Report → List Report → Type 0
+IsScriptOf false comments script script_after reports told = (script_after ≡ script) × (told ≡ reports)
+IsScriptOf true comments script script_after reports told =
+    (Appends script script_after (comments ++ script_of unstirred reports) × (told ≡ reports))
+    ⊎ IsRecordingOver reports told
+
+-- A script of turns was written, if it is wanted, and what is to be told of them was told to an observer.
+pub record AreScripted {L : Type 0} (l : Ghosts L) (is_recorded : Bool) (comments : List ℕ)
+    (script script_after : Option (List ℕ)) (turns : List (List TurnMoment)) (old new : L) : Type 0 where
+  pub reports : List Report
+  pub of_turns : AreReportsOfTurns turns reports
+  pub told : List Report
+  pub written : IsScriptOf is_recorded comments script script_after reports told
+  pub handed : AreReported l told old new
+
+-- What a server is to tell of: whether lines of connections, updates and transfers are left out of its log,
+-- whether a script is written, each how many seconds counts are told, the names of the zones, the addresses.
+pub record Telling : Type 0 where
+  pub is_quiet : Bool
+  pub is_recorded : Bool
+  pub count_every : ℕ
+  pub origins : List Labels
+  pub addresses : List SocketAddr
+
+abbrev pub telling_of : {R : Type 0} → Service R → Telling
+telling_of service = record {
+  is_quiet = service.is_quiet;
+  is_recorded = service.is_recorded;
+  count_every = service.count_every;
+  origins = service.origins.now;
+  addresses = service.addresses.now;
+}
+
+-- What the output, the log and the script of a server hold.
+pub record Texts : Type 0 where
+  pub output : Option (List ℕ)
+  pub log : Option (List ℕ)
+  pub script : Option (List ℕ)
+
+abbrev pub texts_of : {O E W : Type 0} → (O → Option (List ℕ)) → (E → Option (List ℕ))
+    → (W → Option (List ℕ)) → Streams O E W → Texts
+texts_of output log script streams =
+    record { output = output streams.out; log = log streams.err; script = script streams.record }
+
+-- The log of these turns of a machine was written after all that it held: first these lines, then those of
+-- the addresses, and then what is said of the reports, in order. So was their script, which begins with the
+-- versions of the zones; and so were counts.
+pub record AreTold (t : Telling) (first : List ℕ) (m : Machine) (turns : List (List TurnMoment))
+    (before after : Texts) : Type 0 where
+  pub reports : List Report
+  pub of_turns : AreReportsOfTurns turns reports
+  pub told : List Report
+  pub script : IsScriptOf t.is_recorded (zone_comments t.origins m.zones) before.script after.script reports
+      told
+  pub log : IsLogOf first t.is_quiet t.origins t.addresses before.log after.log told
+  pub counts : AreCountsOf t.count_every t.origins m turns before.output after.output
