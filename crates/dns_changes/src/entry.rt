@@ -17,9 +17,12 @@ use std::alloc::AllocError;
 impl Change {
     /// The octets of the change.
     pub fn encode(&self, alloc: Heap) -> Result<Vec<u8, Heap>, AllocError>
-        ensures { IfOk result (λ octets. octets.items ≡ entry self.now) }
+        ensures octets { IfOk result (λ octets. octets.items ≡ entry self.now) }
+        ensures valid { IfOk result (λ _. HasEntry self.now) }
     {
+        let len = self.encoded_len();
         let mut octets = Vec::new(alloc);
+        octets.reserve_exact(len)?;
         self.old_soa().to_wire_plain(&mut octets)?;
         self.new_soa().to_wire_plain(&mut octets)?;
         write_counted(&mut octets, self.removed())?;

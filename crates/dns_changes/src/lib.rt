@@ -9,9 +9,11 @@ mod entry;
 mod form;
 mod group;
 pub mod laws;
+mod prepared;
 
 pub use change::{Change, holds, holds_key, take_out};
 pub use entry::{plain_len, split_record};
+pub use prepared::PreparedEntry;
 use std::alloc::AllocError;
 use thiserror::Error;
 

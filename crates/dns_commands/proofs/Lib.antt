@@ -9,6 +9,7 @@ pub mod Historied
 pub mod LoadEnded
 pub mod Made
 pub mod Migrated
+pub mod Planned
 pub mod ReplayEnded
 pub mod Replayed
 pub mod Shown

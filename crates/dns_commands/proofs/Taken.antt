@@ -1,21 +1,19 @@
 -- What loading records makes of the device of a zone.
-use Rattle.std.proofs.Common.{◌≡◌, inl, inr, List, Option, Result, Ok, Err, refl, sym, ◌∙◌, append-nil}
+use Rattle.std.proofs.Common.{◌≡◌, inl, inr, List, Result, Ok, Err}
 use Rattle.std.specs.Prelude.{MatchResult}
 use Rattle.dns_records.specs.Record.{Record}
-use Rattle.dns_zone.specs.Zone.{Zone}
-use Rattle.dns_changes.specs.Change.{Change}
 use Rattle.dns_sectors.specs.Device.{LeavesOnly}
 use Rattle.dns_sectors.specs.declared.device.Sectors.{Ghosts}
 use Rattle.dns_sectors.proofs.Moments.{joined, weaker}
 use Rattle.dns_store.specs.Laws.{kept_opens}
 use Rattle.dns_store.specs.Opening.{OpensAsPossible, keeps, store_device}
 use Rattle.dns_store.specs.Opens.{fresh, opens}
-use Rattle.dns_store.specs.Versions.{Kept, Opened, newest_after, opened_again}
+use Rattle.dns_store.specs.Versions.{Kept, Opened, opened_again}
 use Rattle.dns_store.specs.declared.kept_store.KeptStore.{KeptStore}
 use Rattle.dns_configuration.specs.declared.configuration.ZoneSettings.{ZoneSettings}
 use Rattle.dns_devices.specs.declared.device_faults.DeviceFault.{DeviceFault}
 use Rattle.dns_commands.specs.declared.next_version.Loaded.{Loaded}
-use Rattle.dns_commands.specs.Load.{IsChangeTo, IsLoadable, IsLoadedInto, IsLoadedOn, IsLoadedAs, IsLoading, IsNotLoaded, LoadsAsPossible, OpensAsLoading}
+use Rattle.dns_commands.specs.Load.{IsLoadedInto, IsLoadedOn, IsLoadedAs, IsLoading, IsNotLoaded, LoadsAsPossible, OpensAsLoading}
 use Rattle.dns_devices.specs.DeviceCalls.{DeviceCall}
 use Rattle.dns_devices.specs.Stores.{LeavesKept, own_shape}
 use Rattle.dns_commands.proofs.Stored.{loaded_on}
@@ -23,16 +21,6 @@ use Rattle.dns_commands.proofs.Stored.{loaded_on}
 pub loading_ends : {D : Type 0} (g : Ghosts D) (calls : List (DeviceCall D)) (own : ZoneSettings) (records : List Record) (r : Result Loaded DeviceFault) → IsLoading g calls own records r → MatchResult r (IsLoadedAs g calls own records) (IsNotLoaded g calls own records)
 loading_ends g calls own records (Ok answer) is = is
 loading_ends g calls own records (Err fault) is = inr is
-
--- The records beside the versions of a store that was just opened.
-pub loadable : (own : ZoneSettings) (newest zone : Zone) (r : Result (Option Change) DeviceFault) (o : Opened) → newest ≡ record { apex = own.origin; records = newest_after o.loaded o.versions } → zone.apex ≡ own.origin → IsChangeTo newest.records zone.records r → IsLoadable own newest zone r (fresh (own_shape own) o)
-loadable own newest zone r o is apex change = record {
-  shape_is = refl;
-  rests = record { none_staged = refl; not_closed = refl };
-  newest_is = is ∙ (λ i. record { apex = own.origin; records = newest_after o.loaded (sym (append-nil o.versions) i) });
-  apex = apex;
-  change_is = change;
-}
 
 module _ {D I : Type 0} (g : Ghosts D) (own : ZoneSettings) (records : List Record) (device : D) (store new : KeptStore D I g) (r : Result Loaded DeviceFault) (o : Opened) where
   abbrev versions : Kept

@@ -15,7 +15,8 @@ use Rattle.dns_store.specs.Opens.{fresh, opens}
 use Rattle.dns_store.specs.Room.{entry_between, sectors_left}
 use Rattle.dns_store.specs.Versions.{Kept, Opened, OpensAsLeft, Shape, made_durable, moved_to, newest_of}
 use Rattle.dns_store.specs.Versions.{opened_again, staged_with}
-use Rattle.dns_versions.specs.Staging.{has_room}
+use Rattle.dns_versions.specs.Held.{shown_zone}
+use Rattle.dns_versions.specs.Staging.{HasPlanRoom, Plan, has_room}
 use Rattle.dns_configuration.specs.declared.configuration.ZoneSettings.{ZoneSettings}
 use Rattle.dns_devices.specs.declared.device_faults.DeviceFault.{DeviceFault}
 use Rattle.dns_devices.specs.declared.device_faults.DeviceFault.TheVariants.{Device, NoRoom, OutOfMemory}
@@ -48,15 +49,18 @@ pub record IsAtRest (k : Kept) : Type 0 where
   pub none_staged : k.staged ≡ []
   pub not_closed : k.closed ≡ false
 
--- The records of a zone's file, and the versions of its store, of which nothing is staged: this is the
--- newest, and this the change from it to the records.
-pub record IsLoadable (own : ZoneSettings) (newest zone : Zone) (change : Result (Option Change) DeviceFault)
-    (k : Kept) : Type 0 where
+-- The versions of a store of these sizes, of which nothing is staged, and the newest one.
+pub record IsLoadable (own : ZoneSettings) (newest : Zone) (k : Kept) : Type 0 where
   pub shape_is : k.shape ≡ own_shape own
   pub rests : IsAtRest k
-  pub newest_is : newest ≡ record { apex = k.shape.apex; records = newest_of k }
-  pub apex : zone.apex ≡ own.origin
-  pub change_is : IsChangeTo newest.records zone.records change
+  pub newest_is : newest ≡ shown_zone k
+
+-- There is a plan for the version of these records if it has room after the newest one.
+abbrev pub IsPlanTold : Kept → List Record → Result Plan DeviceFault → Type 0
+IsPlanTold k records (Ok p) = HasPlanRoom k p
+IsPlanTold k records (Err NoRoom) = has_room k records ≡ false
+IsPlanTold k records (Err OutOfMemory) = Unit {0}
+IsPlanTold k records (Err _) = ⊥
 
 -- The base from which so many sectors are left of the journal: it stays where they are, and else is the
 -- version shown less the newest changes that the zone keeps and that leave them.
@@ -130,11 +134,13 @@ IsLoadedInto keeps before after keep records k (Err OutOfMemory) =
 IsLoadedInto keeps before after keep records k (Err Device) = HasRisen before after
 IsLoadedInto keeps before after keep records k (Err _) = ⊥
 
--- A crash leaves the versions as they were, or from the base for the next one, and perhaps with it.
+-- A crash leaves the versions as they were; or, if the records have a greater serial and room, from the base
+-- for the next one, and perhaps with it.
 abbrev pub OpensAsLoading : (Shape → Opened → Content → Type 0) → ℕ → List Record → Kept → Content → Type 0
 OpensAsLoading opens keep records k c =
     OpensAsLeft opens k c
-    ⊎ ((base : ℕ) × IsBaseForRecords keep records k base
+    ⊎ ((base : ℕ) × IsBaseForRecords keep records k base × IsSerialRaised (newest_of k) records
+    × (has_room k records ≡ true)
     × OpensAsLeft opens (staged_with records (moved_to base k)) c)
 
 -- A crash leaves what opens as a content does that one might have left of the device before, opened as often

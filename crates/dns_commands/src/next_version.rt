@@ -1,27 +1,26 @@
 //! The records of a zone's master file, as the next version of its store.
-ghost use Rattle.std.specs.Prelude.{◌≡◌, ◌≤◌, ◌<◌, ◌-◌, ◌^◌, ◌+◌, List, Result, length, OnOk, MatchResult};
+ghost use Rattle.std.specs.Prelude.{◌≡◌, ◌≤◌, true, List, Some, None, Result, IfOk, OnOk, MatchResult};
 ghost use Rattle.dns_records.specs.Record.{Record as Stated};
 ghost use Rattle.dns_sectors.specs.Device.{LeavesOnly};
-ghost use Rattle.dns_changes.specs.Entry.{entry};
-ghost use Rattle.dns_layout.specs.Sector.{entry_sectors};
-ghost use Rattle.dns_store.specs.Versions.{IsNextVersion, Kept, OpensAsLeft, newest_of, staged_with};
+ghost use Rattle.dns_store.specs.Versions.{Kept, OpensAsLeft, newest_of, staged_with};
 ghost use Rattle.dns_store.specs.Room.{entry_between, sectors_left};
-ghost use Rattle.dns_versions.specs.Staging.{has_room};
-ghost use Rattle.dns_commands.specs.Load.{IsAtRest, IsLoadable, IsLoadedInto, IsRoomMade, IsStored};
-ghost use Rattle.dns_commands.specs.Load.{IsLoadedAs, IsNotLoaded, OpensAsLoading, OpensAsMoved};
+ghost use Rattle.dns_versions.specs.Held.{HasVersions, newer};
+ghost use Rattle.dns_versions.specs.Staging.{HasPlanRoom, IsPlan, has_room, sectors_lacked};
+ghost use Rattle.dns_commands.specs.Load.{IsAtRest, IsChangeTo, IsLoadable, IsLoadedAs, IsLoadedInto};
+ghost use Rattle.dns_commands.specs.Load.{IsNotLoaded, IsPlanTold, IsRoomMade, IsStored, OpensAsLoading};
+ghost use Rattle.dns_commands.specs.Load.{OpensAsMoved};
 ghost use Rattle.dns_configuration.specs.Calls.{Calls};
-ghost use Rattle.dns_devices.specs.Stores.{own_shape};
 ghost use Rattle.dns_devices.specs.declared.device_faults.DeviceFault.{DeviceFault as StatedFault};
 ghost use Rattle.dns_commands.specs.declared.next_version.Loaded.{Loaded as StatedLoaded};
 
 use crate::change::change_to;
-use dns_changes::Change;
+use dns_changes::{Change, PreparedEntry};
 use dns_configuration::ZoneSettings;
 use dns_devices::{DeviceFault, Devices, open_store};
-use dns_layout::{entry_sectors, snapshot_sectors};
 use dns_memory::Heap;
 use dns_sectors::Sectors;
-use dns_store::{CheckpointError, StageError, ZoneStore, snapshot_len};
+use dns_store::{CheckpointError, StageError, ZoneStore};
+use dns_versions::{StagePlan, ZoneVersions};
 use dns_zone::{Zone, ZoneIndex};
 
 /// What was done with the records of a zone's master file.
@@ -39,34 +38,57 @@ pub enum Loaded {
     },
 }
 
-/// Whether there is room after the version of that number for one of these records, whose entry takes that
-/// number of sectors.
-pub(crate) fn has_room<I: ZoneIndex>(
-    newest: u64,
-    own: &ZoneSettings,
+/// The plan to make the records of a zone's file the version after the one that is shown, by the change to
+/// them. `NoRoom` if there is no room for them.
+fn plan_file<I: ZoneIndex, S: ZoneStore>(
+    heap: Heap,
+    versions: &ZoneVersions<I, S>,
+    shown: &Zone<I>,
     zone: &Zone<I>,
-    sectors: usize,
-) -> bool
-    ensures { (k : Kept) → k.shape ≡ own_shape own.now → newest ≡ length k.shown + length k.staged
-        → sectors ≡ entry_between (newest_of k) zone.now.records → result ≡ has_room k zone.now.records }
+    change: Change,
+) -> Result<StagePlan<I>, DeviceFault>
+    requires tip { versions.now.tip ≡ None }
+    requires apex { zone.now.apex ≡ shown.now.apex }
+    requires change { IsChangeTo shown.now.records zone.now.records (Ok (Some change)) }
+    ensures planned { IfOk result (IsPlan shown.now zone.now.records) }
+    ensures room { (k : Kept) → HasVersions S.keeps shown.now versions.now k
+        → IsPlanTold k zone.now.records result }
 {
-    let _valid = zone.apex();
-    snapshot_sectors(snapshot_len(zone)) <= own.snapshot_sectors as usize
-        && sectors <= own.journal_sectors as usize
-        && newest < u64::MAX
+    let _before = shown.apex();
+    let _after = zone.apex();
+    let Ok(entry) = PreparedEntry::new(heap, change) else {
+        return Err(DeviceFault::OutOfMemory);
+    };
+    let Ok(records) = zone.index().fork() else {
+        drop(entry);
+        return Err(DeviceFault::OutOfMemory);
+    };
+    match versions.plan(shown, entry, records) {
+        Ok(Some(plan)) => Ok(plan),
+        Ok(None) => Err(DeviceFault::NoRoom),
+        Err(_) => Err(DeviceFault::OutOfMemory),
+    }
 }
 
-/// Moves the base where fewer sectors than these are left of the journal, so that they are.
-fn make_room<S: ZoneStore>(store: &mut S, keep: usize, room: usize) -> Result<(), DeviceFault>
-    ensures made { (k : Kept) → S.keeps store.old k → IsAtRest k → room ≤ k.shape.journal
-        → IsRoomMade (S.keeps store.new) (S.failed store.old) (S.failed store.new) keep room k result }
-    ensures any_moment { (k : Kept) → S.keeps store.old k → IsAtRest k
-        → LeavesOnly S.moment S.left_since store.old store.new (OpensAsMoved S.opens keep room k) }
+/// Moves the base if so many sectors are lacked of the journal, so that they are left.
+fn free_sectors<S: ZoneStore>(
+    store: &mut S,
+    keep: usize,
+    lacked: Option<usize>,
+) -> Result<(), DeviceFault>
+    ensures made { (k : Kept) (records : List Stated) → S.keeps store.old k → IsAtRest k
+        → has_room k records ≡ true → lacked ≡ sectors_lacked k records
+        → IsRoomMade (S.keeps store.new) (S.failed store.old) (S.failed store.new) keep
+        (entry_between (newest_of k) records) k result }
+    ensures any_moment { (k : Kept) (records : List Stated) → S.keeps store.old k → IsAtRest k
+        → has_room k records ≡ true → lacked ≡ sectors_lacked k records
+        → LeavesOnly S.moment S.left_since store.old store.new
+        (OpensAsMoved S.opens keep (entry_between (newest_of k) records) k) }
     ensures quiet { OnOk result (S.failed store.new ≡ S.failed store.old) }
 {
-    if room <= store.left() {
+    let Some(room) = lacked else {
         return Ok(());
-    }
+    };
     match store.checkpoint(keep, room) {
         Ok(()) => Ok(()),
         Err(CheckpointError::OutOfMemory) => Err(DeviceFault::OutOfMemory),
@@ -75,67 +97,67 @@ fn make_room<S: ZoneStore>(store: &mut S, keep: usize, room: usize) -> Result<()
     }
 }
 
-/// Puts a change after the newest version, and makes it durable. Answers the number of the version.
-fn store_change<S: ZoneStore>(store: &mut S, change: Change) -> Result<u64, DeviceFault>
-    ensures stored { (k : Kept) (records : List Stated) → S.keeps store.old k → IsAtRest k
-        → length k.shown < 2 ^ 64 - 1
-        → entry_sectors (length (entry change)) ≤ sectors_left k
-        → IsNextVersion k records change
-        → IsStored (S.keeps store.new) (S.failed store.old) (S.failed store.new) records k result }
-    ensures any_moment { (k : Kept) (records : List Stated) → S.keeps store.old k → IsAtRest k
-        → IsNextVersion k records change
-        → LeavesOnly S.moment S.left_since store.old store.new
-        (OpensAsLeft S.opens (staged_with records k)) }
+/// Stages the version of a plan after the newest one, and makes it durable. Answers its number.
+fn store_plan<I: ZoneIndex, S: ZoneStore>(
+    versions: &mut ZoneVersions<I, S>,
+    shown: &mut Zone<I>,
+    plan: StagePlan<I>,
+) -> Result<u64, DeviceFault>
+    requires { IsPlan (newer shown.old versions.old.tip) plan.version.records plan }
+    ensures stored { (k : Kept) → HasVersions S.keeps shown.old versions.old k → IsAtRest k
+        → HasPlanRoom k plan → entry_between (newest_of k) plan.version.records ≤ sectors_left k
+        → IsStored (S.keeps versions.new.store) (S.failed versions.old.store) (S.failed versions.new.store)
+        plan.version.records k result }
+    ensures any_moment { (k : Kept) → HasVersions S.keeps shown.old versions.old k → IsAtRest k
+        → HasPlanRoom k plan
+        → LeavesOnly S.moment S.left_since versions.old.store versions.new.store
+        (OpensAsLeft S.opens (staged_with plan.version.records k)) }
 {
-    match store.stage(change) {
+    match versions.stage(shown, plan) {
         Ok(()) => (),
         Err(StageError::OutOfMemory) => return Err(DeviceFault::OutOfMemory),
         Err(StageError::Full) => return Err(DeviceFault::NoRoom),
         Err(StageError::Closed) => return Err(DeviceFault::Device),
     }
-    match store.flush() {
-        Ok(()) => Ok(store.newest()),
-        Err(_) => Err(DeviceFault::Device),
+    if versions.flush(shown) {
+        return Err(DeviceFault::Device);
     }
+    Ok(versions.number)
 }
 
-/// Makes the records of a zone's file the next version of its store, of which this is the newest one, where
-/// there is a change between the two.
-fn load_into<I: ZoneIndex, S: ZoneStore>(
-    store: &mut S,
-    newest: &Zone<I>,
-    own: &ZoneSettings,
+/// Makes the records of a zone's file the version after the one that is shown, by the change to them.
+fn load_change<I: ZoneIndex, S: ZoneStore>(
+    heap: Heap,
+    versions: &mut ZoneVersions<I, S>,
+    shown: &mut Zone<I>,
+    keep: usize,
     zone: &Zone<I>,
-    change: Result<Option<Change>, DeviceFault>,
+    change: Change,
 ) -> Result<Loaded, DeviceFault>
-    ensures loaded { (k : Kept) → S.keeps store.old k
-        → IsLoadable own.now newest.now zone.now change k
-        → IsLoadedInto (S.keeps store.new) (S.failed store.old) (S.failed store.new) own.now.keep
-        zone.now.records k result }
-    ensures any_moment { (k : Kept) → S.keeps store.old k → IsLoadable own.now newest.now zone.now change k
-        → LeavesOnly S.moment S.left_since store.old store.new
-        (OpensAsLoading S.opens own.now.keep zone.now.records k) }
+    requires tip { versions.old.tip ≡ None }
+    requires apex { zone.now.apex ≡ shown.old.apex }
+    requires change { IsChangeTo shown.old.records zone.now.records (Ok (Some change)) }
+    ensures loaded { (k : Kept) → HasVersions S.keeps shown.old versions.old k → IsAtRest k
+        → IsLoadedInto (S.keeps versions.new.store) (S.failed versions.old.store)
+        (S.failed versions.new.store) keep zone.now.records k result }
+    ensures any_moment { (k : Kept) → HasVersions S.keeps shown.old versions.old k → IsAtRest k
+        → LeavesOnly S.moment S.left_since versions.old.store versions.new.store
+        (OpensAsLoading S.opens keep zone.now.records k) }
 {
-    let change = match change {
-        Ok(Some(change)) => change,
-        Ok(None) => return Ok(Loaded::Already),
+    let (added, removed) = (change.added().len(), change.removed().len());
+    let plan = match plan_file(heap, versions, shown, zone, change) {
+        Ok(plan) => plan,
         Err(fault) => return Err(fault),
     };
-    let _valid = zone.apex();
-    let room = entry_sectors(change.encoded_len());
-    if !has_room(store.newest(), own, zone, room) {
-        drop(change);
-        return Err(DeviceFault::NoRoom);
-    }
-    let (added, removed) = (change.added().len(), change.removed().len());
-    match make_room(store, own.keep as usize, room) {
+    let lacked = versions.lacked(&plan);
+    match free_sectors(&mut versions.store, keep, lacked) {
         Ok(()) => (),
         Err(fault) => {
-            drop(change);
+            drop(plan);
             return Err(fault);
         }
     }
-    match store_change(store, change) {
+    match store_plan(versions, shown, plan) {
         Ok(version) => Ok(Loaded::Next {
             version,
             serial: zone.soa().serial(),
@@ -146,42 +168,107 @@ fn load_into<I: ZoneIndex, S: ZoneStore>(
     }
 }
 
-/// The records of a zone's file, the newest version of its store, and the change from that to these.
-#[derive(Drop)]
-struct LoadedFile<'a, I: ZoneIndex> {
-    newest: &'a Zone<I>,
-    own: &'a ZoneSettings,
-    zone: &'a Zone<I>,
-    change: Result<Option<Change>, DeviceFault>,
+/// Makes the records of a zone's file the version after the one that is shown, where there is a change
+/// between the two.
+fn load_file<I: ZoneIndex, S: ZoneStore>(
+    heap: Heap,
+    versions: &mut ZoneVersions<I, S>,
+    shown: &mut Zone<I>,
+    keep: usize,
+    zone: &Zone<I>,
+) -> Result<Loaded, DeviceFault>
+    requires tip { versions.old.tip ≡ None }
+    requires apex { zone.now.apex ≡ shown.old.apex }
+    ensures loaded { (k : Kept) → HasVersions S.keeps shown.old versions.old k → IsAtRest k
+        → IsLoadedInto (S.keeps versions.new.store) (S.failed versions.old.store)
+        (S.failed versions.new.store) keep zone.now.records k result }
+    ensures any_moment { (k : Kept) → HasVersions S.keeps shown.old versions.old k → IsAtRest k
+        → LeavesOnly S.moment S.left_since versions.old.store versions.new.store
+        (OpensAsLoading S.opens keep zone.now.records k) }
+{
+    match change_to(heap, shown, zone) {
+        Ok(Some(change)) => load_change(heap, versions, shown, keep, zone, change),
+        Ok(None) => Ok(Loaded::Already),
+        Err(fault) => Err(fault),
+    }
 }
 
-/// What takes the records of a file. (A call that names both a store over a device and the memory of every
-/// collection has no proof, so that the file is a type parameter.)
-trait TakesFile<F> {
+/// The records of a zone's file, and the newest version of its store.
+#[derive(Drop)]
+struct LoadedFile<'a, I: ZoneIndex> {
+    heap: Heap,
+    newest: Zone<I>,
+    own: &'a ZoneSettings,
+    zone: &'a Zone<I>,
+}
+
+/// Makes the records of a zone's file the next version of its store, where there is a change between the two.
+fn load_store<I: ZoneIndex, S: ZoneStore>(
+    store: S,
+    file: LoadedFile<'_, I>,
+) -> (S, Result<Loaded, DeviceFault>)
+    requires { file.zone.now.apex ≡ file.newest.apex }
+    ensures loaded { (k : Kept) → S.keeps store k → IsLoadable file.entry.own.now file.entry.newest k
+        → IsLoadedInto (S.keeps result.0) (S.failed store) (S.failed result.0) file.entry.own.now.keep
+        file.entry.zone.now.records k result.1 }
+    ensures any_moment { (k : Kept) → S.keeps store k → IsLoadable file.entry.own.now file.entry.newest k
+        → LeavesOnly S.moment S.left_since store result.0
+        (OpensAsLoading S.opens file.entry.own.now.keep file.entry.zone.now.records k) }
+{
+    let LoadedFile {
+        heap,
+        newest,
+        own,
+        zone,
+    } = file;
+    let mut shown = newest;
+    let (snapshot, journal) = (own.snapshot_sectors, own.journal_sectors);
+    let mut versions = ZoneVersions::new(store, &shown, snapshot, journal);
+    let loaded = load_file(heap, &mut versions, &mut shown, own.keep as usize, zone);
+    let ZoneVersions {
+        tip: _,
+        store,
+        number: _,
+        octets: _,
+        snapshot: _,
+        journal: _,
+    } = versions;
+    (store, loaded)
+}
+
+/// What takes the records of a file. (The borrow checker covers no call whose type argument is a store over a
+/// device, and whose signature names the memory of every collection, so that the file is a type parameter.)
+trait TakesFile<F>: Drop {
+    /// It can take them.
+    ghost can_take: { F → Type 0 };
+
     /// It took them, with this answer.
     ghost took: { Self → Self → F → Result StatedLoaded StatedFault → Type 0 };
 
     /// Takes the records.
-    fn take_file(&mut self, file: F) -> Result<Loaded, DeviceFault>
-        ensures { took self.old self.new file result };
+    fn take_file(self, file: F) -> (Self, Result<Loaded, DeviceFault>)
+        requires { can_take file }
+        ensures { took self result.0 file result.1 };
 }
 
 impl<'a, I: ZoneIndex, S: ZoneStore> TakesFile<LoadedFile<'a, I>> for S {
-    ghost took = { λ old new file result. (k : Kept) → S.keeps old k
-        → IsLoadable file.own.now file.newest.now file.zone.now file.change k
+    ghost can_take = { λ file. file.zone.now.apex ≡ file.newest.apex };
+
+    ghost took = { λ old new file result. (k : Kept) → S.keeps old k → IsLoadable file.own.now file.newest k
         → IsLoadedInto (S.keeps new) (S.failed old) (S.failed new) file.own.now.keep file.zone.now.records k
         result
         × LeavesOnly S.moment S.left_since old new
         (OpensAsLoading S.opens file.own.now.keep file.zone.now.records k) };
 
-    fn take_file(&mut self, file: LoadedFile<'a, I>) -> Result<Loaded, DeviceFault> {
-        load_into(self, file.newest, file.own, file.zone, file.change)
+    fn take_file(self, file: LoadedFile<'a, I>) -> (S, Result<Loaded, DeviceFault>) {
+        load_store(self, file)
     }
 }
 
 /// Has a store take the records of a file.
-fn take_file<F, S: TakesFile<F>>(store: &mut S, file: F) -> Result<Loaded, DeviceFault>
-    ensures { S.took store.old store.new file result }
+fn take_file<F, S: TakesFile<F>>(store: S, file: F) -> (S, Result<Loaded, DeviceFault>)
+    requires { S.can_take file }
+    ensures { S.took store result.0 file result.1 }
 {
     store.take_file(file)
 }
@@ -205,14 +292,13 @@ pub fn load_zone<D: Sectors + Drop, F: Devices<D>, I: ZoneIndex>(
 {
     match open_store::<D, F, I>(heap, devices, own) {
         Ok((store, newest)) => {
-            let mut store = store;
             let file = LoadedFile {
-                newest: &newest,
+                heap,
+                newest,
                 own,
                 zone,
-                change: change_to(heap, &newest, zone),
             };
-            let loaded = take_file(&mut store, file);
+            let (store, loaded) = take_file(store, file);
             devices.close(&own.device, store.into_device());
             loaded
         }

@@ -36,17 +36,17 @@ zones_push (o ∷ origins) origin (z ∷ zones) =
     ap (λ (x : List ℕ). here ++ x) (zones_push origins origin zones) ∙ sym (append_assoc here (zones_told origins zones) (zone_told origin (slice_get zones (length origins))))
 
 -- The line of one zone more was written.
-pub told_more : (origins : List Labels) (other : Labels) (zones : List ZoneState) (place : ℕ) (out between out_after : Option (List ℕ)) → place < length origins
-    → Appends out between (zones_told (take place origins) zones) → Appends between out_after (zone_told (get_or origins place other) (slice_get zones place))
-    → Appends out out_after (zones_told (take (place + 1) origins) zones)
-told_more origins other zones place out between out_after lt first more =
-    let here = get_or origins place other in
-    let long : length (take place origins) ≡ place = length-take-le place origins (omega (arith, lt)) in
-    let line = zone_told here (slice_get zones place) in
-    let is : zones_told (take (place + 1) origins) zones ≡ zones_told (take place origins) zones ++ line =
-    ap (λ (x : List Labels). zones_told x zones) (take_more origins place other lt) ∙ zones_push (take place origins) here zones
-    ∙ ap (λ (x : ℕ). zones_told (take place origins) zones ++ zone_told here (slice_get zones x)) long in
-    subst (λ (x : List ℕ). Appends out out_after x) (sym is) (Appends-trans out between out_after (zones_told (take place origins) zones) line first more)
+pub told_more : (origins : List Labels) (other : Labels) (zones : List ZoneState) (index : ℕ) (out between out_after : Option (List ℕ)) → index < length origins
+    → Appends out between (zones_told (take index origins) zones) → Appends between out_after (zone_told (get_or origins index other) (slice_get zones index))
+    → Appends out out_after (zones_told (take (index + 1) origins) zones)
+told_more origins other zones index out between out_after lt first more =
+    let here = get_or origins index other in
+    let long : length (take index origins) ≡ index = length-take-le index origins (omega (arith, lt)) in
+    let line = zone_told here (slice_get zones index) in
+    let is : zones_told (take (index + 1) origins) zones ≡ zones_told (take index origins) zones ++ line =
+    ap (λ (x : List Labels). zones_told x zones) (take_more origins index other lt) ∙ zones_push (take index origins) here zones
+    ∙ ap (λ (x : ℕ). zones_told (take index origins) zones ++ zone_told here (slice_get zones x)) long in
+    subst (λ (x : List ℕ). Appends out out_after x) (sym is) (Appends-trans out between out_after (zones_told (take index origins) zones) line first more)
 
 -- The line of a zone was written, or there is no such zone.
 pub no_zone : (origin : Labels) (z : Option ZoneState) (out : Option (List ℕ)) → z ≡ None → Appends out out (zone_told origin z)

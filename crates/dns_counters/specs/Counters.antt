@@ -62,7 +62,7 @@ with_answer c (Datagram peer octets) message = with_octets c message
 with_answer c (Arrives number octets) message = with_octets c message
 with_answer c (Connect peer) message = with_octets c message
 with_answer c Flush message = with_octets c message
-with_answer c (Checkpoint place) message = with_octets c message
+with_answer c (Checkpoint index) message = with_octets c message
 with_answer c (Closed number) message = with_octets c message
 
 -- Whether a transfer is open on the connection with a number; and on how many one is.
@@ -95,13 +95,13 @@ with_silent c (Pump number) = with_open c number false
 with_silent c (Datagram peer octets) = c
 with_silent c (Connect peer) = c
 with_silent c Flush = c
-with_silent c (Checkpoint place) = c
+with_silent c (Checkpoint index) = c
 with_silent c (Closed number) = c
 
 abbrev pub with_transfer_of : Counters → Event → Option Reply → Noted → Counters
 with_transfer_of c event None noted.Nothing = with_silent c event
 with_transfer_of c event None noted.OutOfMemory = c
-with_transfer_of c event None (noted.Device place) = c
+with_transfer_of c event None (noted.Device index) = c
 with_transfer_of c event (Some reply) noted = c
 
 abbrev pub with_transfer : Counters → Event → Effects → Counters
@@ -119,7 +119,7 @@ with_note c (note.Silent number) = record c { silent = more c.silent }
 with_note c (note.Stalled number) = record c { silent = more c.silent }
 with_note c note.Refused = record c { refused = more c.refused }
 with_note c note.OutOfMemory = c
-with_note c (note.Device place) = c
+with_note c (note.Device index) = c
 with_note c (note.Begins now) = c
 with_note c note.Ends = c
 with_note c note.Unrecorded = c

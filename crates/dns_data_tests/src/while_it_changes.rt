@@ -1,6 +1,6 @@
 //! A transfer of a large zone, and what becomes of it while the zone changes (RFC 5936 section 3).
 use crate::large::{HOSTS, file};
-use dns_commands::replay;
+use dns_commands::{Run, replay};
 use dns_configuration::{DONE, File};
 use dns_memory::{Heap, heap};
 use std::alloc::{AllocError, Global};
@@ -65,10 +65,16 @@ fn printed(alloc: Global, heap: Heap, zone: &str, between: &str) -> Option<Vec<u
     let script = script(heap, between).ok()?;
     let (config, zone) = (file_of("c", CONFIG), [file_of("z", zone)]);
     let script = file_of("s", script.as_str());
-    let mut out = Vec::new(alloc);
-    let mut err = io::sink();
-    let status = replay(alloc, heap, &config, &zone, &script, &mut out, &mut err);
-    if status == DONE { Some(out) } else { None }
+    let mut run = Run {
+        alloc,
+        heap,
+        devices: (),
+        explain: false,
+        out: Vec::new(alloc),
+        err: io::sink(),
+    };
+    let status = replay(&mut run, &config, &zone, &script);
+    if status == DONE { Some(run.out) } else { None }
 }
 
 /// Where the lines of two runs first differ: in how many lines they agree, the reply to the update left out

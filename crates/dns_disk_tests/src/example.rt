@@ -3,7 +3,7 @@
 use crate::stores::{
     Device, Found, Shape, Store, Text, enter, found_on, made, opened, read, stage, write,
 };
-use dns_changes::Change;
+use dns_changes::{Change, PreparedEntry};
 use dns_fixtures::{blank, octets, plan, zone};
 use dns_layout::{Format, is_intact};
 use dns_memory::{Heap, heap};
@@ -163,7 +163,8 @@ fn fresh(heap: Heap) -> Option<Store> {
 /// The device of the store with the change, all of it durable.
 pub(crate) fn changed(heap: Heap) -> Option<Device> {
     let mut store = fresh(heap)?;
-    store.stage(Change::decode(heap, ENTRY).ok()?).ok()?;
+    let change = Change::decode(heap, ENTRY).ok()?;
+    store.stage(PreparedEntry::new(heap, change).ok()?).ok()?;
     store.flush().ok()?;
     Some(store.into_device().crash(Keep::These(&[])))
 }

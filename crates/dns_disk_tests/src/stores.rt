@@ -1,6 +1,6 @@
 //! Two zones, stores of them on devices in memory, and what a device opens as. What a test doesn't look at is
 //! no error here but `None`.
-use dns_changes::Change;
+use dns_changes::{Change, PreparedEntry};
 use dns_fixtures::{blank, name, zone};
 use dns_memory::Heap;
 use dns_sectors::{Keep, MemorySectors, Plan, Sector, Sectors};
@@ -128,7 +128,8 @@ pub(crate) fn stage(
     let mut octets = Vec::new(heap);
     shape.push_entry(&mut octets, serial, text, is_gone)?;
     let change = Change::decode(heap, &octets).ok()?;
-    Some(store.stage(change).is_ok())
+    let entry = PreparedEntry::new(heap, change).ok()?;
+    Some(store.stage(entry).is_ok())
 }
 
 /// Stages and flushes the change that adds a text, and says whether both were done.

@@ -26,6 +26,19 @@ use dns_zone::{Zone, ZoneIndex};
 use std::io::{self, Write};
 use std::net::SocketAddr;
 
+/// Which zone is to be taken in, and from where.
+#[derive(Clone, Copy)]
+pub struct FetchRequest<'a> {
+    /// The address of the server, as text.
+    pub server: &'a str,
+    /// The apex of the zone, as text.
+    pub origin: &'a str,
+    /// The file of the version that is held, if there is one.
+    pub since: Option<&'a File<'a>>,
+    /// Whether a second line of an error of the server says what can be done.
+    pub explain: bool,
+}
+
 /// The version that a master file holds, if there is a file.
 fn held_version<I: ZoneIndex>(
     heap: Heap,
@@ -104,19 +117,23 @@ fn tell_since<E: Write>(err: &mut E, since: Option<&File<'_>>, fault: Fault) -> 
 fn fetched<S: WaitingStream + Drop, V: Servers<S>, I: ZoneIndex, P: Watch, W: Write, E: Write>(
     heap: Heap,
     servers: &mut V,
-    server: &str,
-    origin: &str,
-    since: Option<&File<'_>>,
-    explain: bool,
+    asked: FetchRequest<'_>,
     watch: &mut P,
     out: &mut W,
     err: &mut E,
 ) -> io::Result<u8>
-    ensures { Calls (V.calls servers.old) (V.calls servers.new) (λ calls. ConnectsOnce server.now calls
-        × FetchEnds S.Stream (IsReached calls) server.now origin.now (option_copied since.entry) explain
-        (W.contents out.old) (W.contents out.new) (E.contents err.old) (E.contents err.new)
-        (result_unwrap_or result FAILED)) }
+    ensures { Calls (V.calls servers.old) (V.calls servers.new)
+        (λ calls. ConnectsOnce asked.entry.server.now calls
+        × FetchEnds S.Stream (IsReached calls) asked.entry.server.now asked.entry.origin.now
+        (option_copied asked.entry.since) asked.entry.explain (W.contents out.old) (W.contents out.new)
+        (E.contents err.old) (E.contents err.new) (result_unwrap_or result FAILED)) }
 {
+    let FetchRequest {
+        server,
+        origin,
+        since,
+        explain,
+    } = asked;
     let Some(address) = socket_address(server) else {
         return tell_fetch(err, server, FetchFault::BadAddress, explain);
     };
@@ -134,9 +151,9 @@ fn fetched<S: WaitingStream + Drop, V: Servers<S>, I: ZoneIndex, P: Watch, W: Wr
     }
 }
 
-/// Takes in the zone whose apex is the text `origin` from the server at the address `server`, and prints it
-/// as a master file. It is asked for by AXFR (RFC 5936), or with a file by IXFR, for the changes of the
-/// version that the file holds (RFC 1995); where that is current it is printed.
+/// Takes in a zone from a server, and prints it as a master file. It is asked for by AXFR (RFC 5936), or with
+/// a file by IXFR, for the changes of the version that the file holds (RFC 1995); where that is current it is
+/// printed.
 ///
 /// Faults are reported in one line, the first in this order: the address (`SERVER: BadAddress`), the origin
 /// (`ORIGIN: BadOrigin`), the file, as `check` reports it, and what came of the request: `SERVER:
@@ -148,20 +165,16 @@ fn fetched<S: WaitingStream + Drop, V: Servers<S>, I: ZoneIndex, P: Watch, W: Wr
 pub fn fetch<S: WaitingStream + Drop, V: Servers<S>, I: ZoneIndex, P: Watch, W: Write, E: Write>(
     heap: Heap,
     servers: &mut V,
-    server: &str,
-    origin: &str,
-    since: Option<&File<'_>>,
-    explain: bool,
+    asked: FetchRequest<'_>,
     watch: &mut P,
     out: &mut W,
     err: &mut E,
 ) -> u8
-    ensures { Calls (V.calls servers.old) (V.calls servers.new) (λ calls. ConnectsOnce server.now calls
-        × FetchEnds S.Stream (IsReached calls) server.now origin.now (option_copied since.entry) explain
-        (W.contents out.old) (W.contents out.new) (E.contents err.old) (E.contents err.new) result) }
+    ensures { Calls (V.calls servers.old) (V.calls servers.new)
+        (λ calls. ConnectsOnce asked.entry.server.now calls
+        × FetchEnds S.Stream (IsReached calls) asked.entry.server.now asked.entry.origin.now
+        (option_copied asked.entry.since) asked.entry.explain (W.contents out.old) (W.contents out.new)
+        (E.contents err.old) (E.contents err.new) result) }
 {
-    fetched::<S, V, I, P, W, E>(
-        heap, servers, server, origin, since, explain, watch, out, err,
-    )
-    .unwrap_or(FAILED)
+    fetched::<S, V, I, P, W, E>(heap, servers, asked, watch, out, err).unwrap_or(FAILED)
 }

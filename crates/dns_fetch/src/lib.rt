@@ -7,7 +7,7 @@ mod servers;
 mod taking_in;
 mod watching;
 
-pub use command::fetch;
+pub use command::{FetchRequest, fetch};
 pub use fetch_faults::FetchFault;
 pub use servers::{Servers, Tcp, TcpSocket, WaitingStream};
 pub use watching::Watch;

@@ -12,7 +12,7 @@ ghost use Rattle.dns_journal.specs.Phases.{LeftByBatch};
 ghost use Rattle.dns_journal.specs.Staging.{Stages, PushesBodies};
 
 use crate::Cursor;
-use dns_changes::Change;
+use dns_changes::PreparedEntry;
 use dns_layout::{Body, Format, HEAD_ROOM, Head, PAYLOAD_ROOM, Root, entry_sectors};
 use dns_memory::Heap;
 use dns_sectors::{DeviceError, SectorWrite, Sectors, write_phase};
@@ -133,24 +133,24 @@ impl<D: Sectors> Journal<D> {
         self.next.until - self.next.at
     }
 
-    /// Puts a change after the newest entry, in memory. Nothing is written. `Full` where its entry takes more
+    /// Puts a prepared entry after the newest one, in memory. Nothing is written. `Full` where it takes more
     /// sectors than are left, `Closed` where the device has failed; neither changes anything, nor does memory
     /// that is refused.
-    pub fn stage(&mut self, alloc: Heap, change: &Change) -> Result<(), StageError>
+    pub fn stage(&mut self, prepared: &PreparedEntry) -> Result<(), StageError>
         requires { newest_number_of self.old < 2 ^ 64 - 1 }
         ensures staged { (shape : Sizes) (k : Stored) (staged : List Entry) → Keeps shape self.old k staged
-            → OnOk result ((e : Entry) × (entry_octets e ≡ entry change.now)
-            × (entry_size e ≡ sectors_of_entry (length (entry change.now)))
+            → OnOk result ((e : Entry) × (entry_octets e ≡ entry prepared.now)
+            × (entry_size e ≡ sectors_of_entry (length (entry prepared.now)))
             × Keeps shape self.new k (staged ++ e ∷ [])) }
-        ensures written { OnOk result (HasEntry change.now) }
+        ensures written { OnOk result (HasEntry prepared.now) }
         ensures stays { (shape : Sizes) (k : Stored) (staged : List Entry) → Keeps shape self.old k staged
             → OnErr result (Keeps shape self.new k staged) }
         ensures left { OnErr result (free_sectors self.new ≡ free_sectors self.old) }
         ensures newest { OnErr result (newest_number_of self.new ≡ newest_number_of self.old) }
         ensures full { result ≡ Err StageError.Full ↔ ((is_closed self.old ≡ false)
-            × (free_sectors self.old < sectors_of_entry (length (entry change.now)))) }
+            × (free_sectors self.old < sectors_of_entry (length (entry prepared.now)))) }
         ensures fits { OnOk result
-            (free_sectors self.new + sectors_of_entry (length (entry change.now)) ≡ free_sectors self.old) }
+            (free_sectors self.new + sectors_of_entry (length (entry prepared.now)) ≡ free_sectors self.old) }
         ensures closed { result ≡ Err StageError.Closed ↔ is_closed self.old ≡ true }
         ensures stays_open { is_closed self.new ≡ is_closed self.old }
         ensures opened { opened_of self.new ≡ opened_of self.old }
@@ -159,11 +159,11 @@ impl<D: Sectors> Journal<D> {
         if self.is_closed {
             return Err(StageError::Closed);
         }
-        if entry_sectors(change.encoded_len()) > self.left() {
+        let octets = prepared.octets();
+        if entry_sectors(octets.len()) > self.left() {
             return Err(StageError::Full);
         }
-        let octets = change.encode(alloc)?;
-        stage_octets(&mut self.next, &mut self.bodies, &mut self.heads, &octets)?;
+        stage_octets(&mut self.next, &mut self.bodies, &mut self.heads, octets)?;
         Ok(())
     }
 

@@ -1,7 +1,7 @@
 -- Connections that are unused or stalled are gone after they were visited.
 use Rattle.std.proofs.Common.{◌≡◌, ◌⊎◌, inl, inr, ℕ, zero, suc, ◌+◌, ◌<◌, ◌≤◌, Bool, false, List, [], ◌∷◌, ◌++◌, length, Option, Some, None, refl, ap, sym, subst, arith}
 use Rattle.std.specs.Prelude.{slice_get}
-use Rattle.dns_zone.specs.declared.index.ZoneIndex as index
+use Rattle.dns_zone.specs.declared.index.ZoneIndex as zone_index
 use Rattle.dns_store.specs.declared.zone_store.ZoneStore as store
 use Rattle.dns_primary.specs.Machine.{Machine}
 use Rattle.dns_primary.specs.Keeps.{IsKept}
@@ -40,7 +40,7 @@ placed_stays n s now known lasts number new (Some target) asked last before afte
 placed_stays n s now known lasts number new (Some target) asked last before after (inr (watched, is_watched, inr (less, (c, from, left, held, used, set)))) is =
     subst (Is known number) (sym set) (put_stays known number target before c (lasts.used c used) is)
 
-module _ {I D S N L : Type 0} {i : index.Ghosts I} {d : store.Ghosts D} (s : stream.Ghosts S) (n : Ghosts N S) (l : notes.Ghosts L) (now : ℕ) where
+module _ {I D S N L : Type 0} {i : zone_index.Ghosts I} {d : store.Ghosts D} (s : stream.Ghosts S) (n : Ghosts N S) (l : notes.Ghosts L) (now : ℕ) where
   abbrev places : Served I D S N L i d → List (Option (Connection S))
   places served = served.connections
 
@@ -64,7 +64,7 @@ module _ {I D S N L : Type 0} {i : index.Ghosts I} {d : store.Ghosts D} (s : str
     came_is (Pump target) old given comes is = same_is old given (ap places comes) is
     came_is Flush old given comes is = same_is old given (ap places comes) is
     came_is (Connect peer) old given comes is = absurd comes
-    came_is (Checkpoint place) old given comes is = absurd comes
+    came_is (Checkpoint index) old given comes is = absurd comes
     came_is (Closed target) old given comes is = absurd comes
 
     moment_is : (one : TurnMoment) (old new : Served I D S N L i d) → IsMoment s n l now one old new → Is known number old.connections

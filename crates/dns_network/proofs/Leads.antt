@@ -13,7 +13,7 @@ use Rattle.dns_network.specs.Closing.{Cause, GivesCause, HasEnded, NoMemory}
 use Rattle.dns_network.specs.Connection.{HasLost, MovesOn, held_of, rest_of, stream_of, unhandled}
 use Rattle.std.proofs.lemmas.Option.{slice_get_past}
 use Rattle.dns_network.specs.Connections.{HasBecome, HasMovedAt, IsOpenWith, is_open, is_open_at}
-use Rattle.dns_zone.specs.declared.index.ZoneIndex as index
+use Rattle.dns_zone.specs.declared.index.ZoneIndex as zone_index
 use Rattle.dns_store.specs.declared.zone_store.ZoneStore as store
 use Rattle.dns_versions.specs.Each.{Each2}
 use Rattle.dns_primary.specs.declared.event.Effects.{Effects}
@@ -60,16 +60,16 @@ pub closed_still : {S : Type 0} (number : ℕ) (old mid new : List (Option (Conn
 closed_still {S = S} number old mid new same gone = gone ∙ ap (λ (cs : List (Option (Connection S))). slice_set cs number None) same
 
 -- A server, its parts told one by one.
-abbrev pub standing : {I D S N L : Type 0} {i : index.Ghosts I} {d : store.Ghosts D} → Primary I D i d → N → L → List (Option (Connection S))
+abbrev pub standing : {I D S N L : Type 0} {i : zone_index.Ghosts I} {d : store.Ghosts D} → Primary I D i d → N → L → List (Option (Connection S))
     → Served I D S N L i d
 standing primary network notes connections = record { primary = primary; connections = connections; network = network; notes = notes }
 
 -- what a turn is made with, and some connections
-abbrev pub standing_by : {I D S N L : Type 0} {i : index.Ghosts I} {d : store.Ghosts D} → Turn I D N L i d → List (Option (Connection S)) → Served I D S N L i d
+abbrev pub standing_by : {I D S N L : Type 0} {i : zone_index.Ghosts I} {d : store.Ghosts D} → Turn I D N L i d → List (Option (Connection S)) → Served I D S N L i d
 standing_by turn connections = standing turn.primary.now turn.network.now turn.notes.now connections
 
 -- a turn is the same after two steps, if it is after each
-pub same_on : {I D N L : Type 0} {i : index.Ghosts I} {d : store.Ghosts D} (a b c : Turn I D N L i d) → IsSameTurn a b → IsSameTurn b c → IsSameTurn a c
+pub same_on : {I D N L : Type 0} {i : zone_index.Ghosts I} {d : store.Ghosts D} (a b c : Turn I D N L i d) → IsSameTurn a b → IsSameTurn b c → IsSameTurn a c
 same_on a b c (network, primary, notes) (network', primary', notes') = (network' ∙ network, primary' ∙ primary, notes' ∙ notes)
 
 -- where nothing is kept of replies that wait, none waits
@@ -78,7 +78,7 @@ none_of [] [] none h = refl
 none_of [] (w ∷ waiting) none h = absurd h
 none_of (k ∷ kept) waiting none h = absurd (omega (arith, none))
 
-pub none_waits : {I D : Type 0} {i : index.Ghosts I} {d : store.Ghosts D} (primary : Primary I D i d) (waits : Bool)
+pub none_waits : {I D : Type 0} {i : zone_index.Ghosts I} {d : store.Ghosts D} (primary : Primary I D i d) (waits : Bool)
     → waits ≡ not (length primary.waiting.items == 0) → waits ≡ false → NoneWaits primary
 none_waits primary waits is none = λ m kept. none_of primary.waiting.items m.waiting (grind (arith, nat_tests, is, none)) kept.waiting_are
 
@@ -104,13 +104,13 @@ module _ {S : Type 0} (s : stream.Ghosts S) where
   closed_then became number old mid new (c, d, there, on, set) gone =
       closed_still number (slice_set old number (Some d)) mid new set gone ∙ set-set old number (Some d) None
 
-module _ {I D S N L : Type 0} {i : index.Ghosts I} {d : store.Ghosts D} where
+module _ {I D S N L : Type 0} {i : zone_index.Ghosts I} {d : store.Ghosts D} where
   -- Nothing else is done from here to there, in this second.
   abbrev pub MomentsLead : stream.Ghosts S → Ghosts N S → notes.Ghosts L → ℕ → Served I D S N L i d
       → Served I D S N L i d → Type 0
   MomentsLead s n l now old new = (moments : List TurnMoment) × AreMoments s n l now moments old new
 
-module _ {I D S N L : Type 0} {i : index.Ghosts I} {d : store.Ghosts D} (s : stream.Ghosts S) (n : Ghosts N S) (l : notes.Ghosts L) (now : ℕ) where
+module _ {I D S N L : Type 0} {i : zone_index.Ghosts I} {d : store.Ghosts D} (s : stream.Ghosts S) (n : Ghosts N S) (l : notes.Ghosts L) (now : ℕ) where
   pub one_moment : (one : TurnMoment) (a b : Served I D S N L i d) → IsMoment s n l now one a b → AreMoments s n l now (one ∷ []) a b
   one_moment one a b h = (b, h, refl)
 
@@ -191,13 +191,13 @@ module _ {I D S N L : Type 0} {i : index.Ghosts I} {d : store.Ghosts D} (s : str
       → IsCauseNoted l number cause old told → IsClosed l number told new → IsMoment s n l now (Closes number cause) old new
   closes number cause old told new gives noted closed = record { gives = gives; told = told; noted = noted; closed = closed }
 
-module _ {I D S N L : Type 0} {i : index.Ghosts I} {d : store.Ghosts D} (l : notes.Ghosts L) where
+module _ {I D S N L : Type 0} {i : zone_index.Ghosts I} {d : store.Ghosts D} (l : notes.Ghosts L) where
   -- a connection was closed, and nothing else is changed by that of what had been there before
   pub closed_from : (number : ℕ) (places : List (Option (Connection S))) (told new : Served I D S N L i d) → new.connections ≡ slice_set places number None
       → IsClosed l number told new → IsClosed l number (record told { connections = places }) new
   closed_from number places told new gone is = record { effects = is.effects; told = is.told; gone = gone; network = is.network; noted = is.noted }
 
-module _ {I D S N L : Type 0} {i : index.Ghosts I} {d : store.Ghosts D} (n : Ghosts N S) (l : notes.Ghosts L) where
+module _ {I D S N L : Type 0} {i : zone_index.Ghosts I} {d : store.Ghosts D} (n : Ghosts N S) (l : notes.Ghosts L) where
   going_on : (first later : List Going) (a b c : Served I D S N L i d) → AreGoing n l first a b → AreGoing n l later b c → AreGoing n l (first ++ later) a c
   going_on first later a b c is more = steps_on (λ old one new. IsSent n l one.to one.octets one.cut old new) first later a b c is more
 

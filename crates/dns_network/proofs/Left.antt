@@ -2,11 +2,11 @@
 use Rattle.std.proofs.Common.{◌≡◌, ◌+◌, ℕ, suc, inl, inr, List, [], ◌∷◌, ◌++◌, Bool, Option, ap, ◌∙◌, arith}
 use Rattle.std.specs.Prelude.{Some, slice_get}
 use Rattle.dns_zone.specs.Zone.{Zone}
-use Rattle.dns_zone.specs.declared.index.ZoneIndex as index
+use Rattle.dns_zone.specs.declared.index.ZoneIndex as zone_index
 use Rattle.dns_sectors.specs.Device.{Content, LeavesOnly}
 use Rattle.dns_sectors.proofs.Moments.{joined, started, weaker}
 use Rattle.dns_store.specs.declared.zone_store.ZoneStore as store
-use Rattle.dns_versions.specs.declared.pending.PendingZone.{PendingZone}
+use Rattle.dns_versions.specs.declared.zone_versions.ZoneVersions.{ZoneVersions}
 use Rattle.dns_versions.specs.Each.{Each3}
 use Rattle.dns_primary.specs.declared.primary.Primary.{Primary}
 use Rattle.dns_primary.specs.Keeps.{HaveVersions, IsKept}
@@ -18,68 +18,68 @@ use Rattle.dns_primary.specs.Steps.{AtAnyMomentOf, OpensAsEvent, with_rooms}
 use Rattle.dns_network.specs.Left.{AreLeftFrom, LeadsThrough, OpensInRun, RestLaw}
 
 -- What is at a position of a list, counted from another.
-at_here : {A : Type 0} (all : List A) (place : ℕ) (x : A) (xs : List A) → ((j : ℕ) → slice_get all (place + j) ≡ slice_get (x ∷ xs) j) → slice_get all place ≡ Some x
-at_here all place x xs h = ap (slice_get all) (let e : place ≡ place + 0 = omega arith in e) ∙ h 0
+at_here : {A : Type 0} (all : List A) (index : ℕ) (x : A) (xs : List A) → ((j : ℕ) → slice_get all (index + j) ≡ slice_get (x ∷ xs) j) → slice_get all index ≡ Some x
+at_here all index x xs h = ap (slice_get all) (let e : index ≡ index + 0 = omega arith in e) ∙ h 0
 
-at_next : {A : Type 0} (all : List A) (place : ℕ) (x : A) (xs : List A) → ((j : ℕ) → slice_get all (place + j) ≡ slice_get (x ∷ xs) j) → (j : ℕ) → slice_get all (suc place + j) ≡ slice_get xs j
-at_next all place x xs h j = ap (slice_get all) (let e : suc place + j ≡ place + suc j = omega arith in e) ∙ h (suc j)
+at_next : {A : Type 0} (all : List A) (index : ℕ) (x : A) (xs : List A) → ((j : ℕ) → slice_get all (index + j) ≡ slice_get (x ∷ xs) j) → (j : ℕ) → slice_get all (suc index + j) ≡ slice_get xs j
+at_next all index x xs h j = ap (slice_get all) (let e : suc index + j ≡ index + suc j = omega arith in e) ∙ h (suc j)
 
 module _ {S : Type 0} (s : store.Ghosts S) where
   -- A crash in the first part of a run, or in the rest of it, falls in the whole.
-  front : (m : Machine) (first later : List Moment) (place : ℕ) (c : Content) → OpensInRun s.opens m first place c → OpensInRun s.opens m (first ++ later) place c
-  front m [] [] place c is = is
-  front m [] (t ∷ later) place c is = inl is
-  front m (t ∷ first) later place c (inl rests) = inl rests
-  front m (t ∷ first) later place c (inr (inl within)) = inr (inl within)
-  front m (t ∷ first) later place c (inr (inr on)) = inr (inr (front (machine_after t) first later place c on))
+  front : (m : Machine) (first later : List Moment) (index : ℕ) (c : Content) → OpensInRun s.opens m first index c → OpensInRun s.opens m (first ++ later) index c
+  front m [] [] index c is = is
+  front m [] (t ∷ later) index c is = inl is
+  front m (t ∷ first) later index c (inl rests) = inl rests
+  front m (t ∷ first) later index c (inr (inl within)) = inr (inl within)
+  front m (t ∷ first) later index c (inr (inr on)) = inr (inr (front (machine_after t) first later index c on))
 
-  behind : (m : Machine) (first later : List Moment) (place : ℕ) (c : Content) → OpensInRun s.opens (last_of m first) later place c → OpensInRun s.opens m (first ++ later) place c
-  behind m [] later place c is = is
-  behind m (t ∷ first) later place c is = inr (inr (behind (machine_after t) first later place c is))
+  behind : (m : Machine) (first later : List Moment) (index : ℕ) (c : Content) → OpensInRun s.opens (last_of m first) later index c → OpensInRun s.opens m (first ++ later) index c
+  behind m [] later index c is = is
+  behind m (t ∷ first) later index c is = inr (inr (behind (machine_after t) first later index c is))
 
 module _ {I S : Type 0} (s : store.Ghosts S) where
-  rest_from : RestLaw s → (m : Machine) (place : ℕ) (zones : List Zone) (pending : List (PendingZone I S)) (states : List ZoneState) → ((j : ℕ) → slice_get m.zones (place + j) ≡ slice_get states j)
-      → HaveVersions s.keeps zones pending states → AreLeftFrom s place m [] pending pending
-  rest_from law m place [] [] [] at kept = tt
-  rest_from law m place (y ∷ zones) (b ∷ pending) (z ∷ states) at kept = (
-    started s.moment s.left_since b.store (OpensInRun s.opens m [] place) (λ c left. (z, at_here m.zones place z states at, law b.store (kept_of z) (kept.0).kept c left)),
-    rest_from law m (suc place) zones pending states (at_next m.zones place z states at) kept.1,
+  rest_from : RestLaw s → (m : Machine) (index : ℕ) (zones : List Zone) (pending : List (ZoneVersions I S)) (states : List ZoneState) → ((j : ℕ) → slice_get m.zones (index + j) ≡ slice_get states j)
+      → HaveVersions s.keeps zones pending states → AreLeftFrom s index m [] pending pending
+  rest_from law m index [] [] [] at kept = tt
+  rest_from law m index (y ∷ zones) (b ∷ pending) (z ∷ states) at kept = (
+    started s.moment s.left_since b.store (OpensInRun s.opens m [] index) (λ c left. (z, at_here m.zones index z states at, law b.store (kept_of z) (kept.0).kept c left)),
+    rest_from law m (suc index) zones pending states (at_next m.zones index z states at) kept.1,
   )
-  rest_from law m place [] (b ∷ pending) states at kept = absurd kept
-  rest_from law m place (y ∷ zones) [] states at kept = absurd kept
-  rest_from law m place [] [] (z ∷ states) at kept = absurd kept
-  rest_from law m place (y ∷ zones) (b ∷ pending) [] at kept = absurd kept
+  rest_from law m index [] (b ∷ pending) states at kept = absurd kept
+  rest_from law m index (y ∷ zones) [] states at kept = absurd kept
+  rest_from law m index [] [] (z ∷ states) at kept = absurd kept
+  rest_from law m index (y ∷ zones) (b ∷ pending) [] at kept = absurd kept
 
-  event_from : (m : Machine) (event : Event) (fails : List Bool) (stated : machine.Effects) (next : Machine) (place : ℕ) (olds news : List (PendingZone I S)) (ks : List (Option ℕ × ZoneState))
-      → ((j : ℕ) → slice_get (with_rooms (base_moved m event) m.zones) (place + j) ≡ slice_get ks j)
+  event_from : (m : Machine) (event : Event) (fails : List Bool) (stated : machine.Effects) (next : Machine) (index : ℕ) (olds news : List (ZoneVersions I S)) (ks : List (Option ℕ × ZoneState))
+      → ((j : ℕ) → slice_get (with_rooms (base_moved m event) m.zones) (index + j) ≡ slice_get ks j)
       → Each3 (λ a b k. LeavesOnly s.moment s.left_since a.store b.store (OpensAsEvent s.opens k.0 k.1)) olds news ks
-      → AreLeftFrom s place m (Took event fails stated next ∷ []) olds news
-  event_from m event fails stated next place [] [] [] at is = tt
-  event_from m event fails stated next place (a ∷ olds) (b ∷ news) (k ∷ ks) at is = (
-    weaker s.moment s.left_since a.store b.store (OpensAsEvent s.opens k.0 k.1) (OpensInRun s.opens m (Took event fails stated next ∷ []) place) is.0
-        (λ c left. inr (inl (k, at_here (with_rooms (base_moved m event) m.zones) place k ks at, left))),
-    event_from m event fails stated next (suc place) olds news ks (at_next (with_rooms (base_moved m event) m.zones) place k ks at) is.1,
+      → AreLeftFrom s index m (Took event fails stated next ∷ []) olds news
+  event_from m event fails stated next index [] [] [] at is = tt
+  event_from m event fails stated next index (a ∷ olds) (b ∷ news) (k ∷ ks) at is = (
+    weaker s.moment s.left_since a.store b.store (OpensAsEvent s.opens k.0 k.1) (OpensInRun s.opens m (Took event fails stated next ∷ []) index) is.0
+        (λ c left. inr (inl (k, at_here (with_rooms (base_moved m event) m.zones) index k ks at, left))),
+    event_from m event fails stated next (suc index) olds news ks (at_next (with_rooms (base_moved m event) m.zones) index k ks at) is.1,
   )
-  event_from m event fails stated next place [] (b ∷ news) ks at is = absurd is
-  event_from m event fails stated next place (a ∷ olds) [] ks at is = absurd is
-  event_from m event fails stated next place [] [] (k ∷ ks) at is = absurd is
-  event_from m event fails stated next place (a ∷ olds) (b ∷ news) [] at is = absurd is
+  event_from m event fails stated next index [] (b ∷ news) ks at is = absurd is
+  event_from m event fails stated next index (a ∷ olds) [] ks at is = absurd is
+  event_from m event fails stated next index [] [] (k ∷ ks) at is = absurd is
+  event_from m event fails stated next index (a ∷ olds) (b ∷ news) [] at is = absurd is
 
-  on_from : (m : Machine) (first later : List Moment) (place : ℕ) (olds mids news : List (PendingZone I S)) → AreLeftFrom s place m first olds mids
-      → AreLeftFrom s place (last_of m first) later mids news → AreLeftFrom s place m (first ++ later) olds news
-  on_from m first later place [] [] [] h k = tt
-  on_from m first later place (a ∷ olds) (b ∷ mids) (d ∷ news) h k = (
-    joined s.moment s.left_since a.store b.store d.store (OpensInRun s.opens m (first ++ later) place) (OpensInRun s.opens (last_of m first) later place)
-        (weaker s.moment s.left_since a.store b.store (OpensInRun s.opens m first place) (OpensInRun s.opens m (first ++ later) place) h.0 (λ c left. front s m first later place c left)) k.0
-        (λ c left. behind s m first later place c left),
-    on_from m first later (suc place) olds mids news h.1 k.1,
+  on_from : (m : Machine) (first later : List Moment) (index : ℕ) (olds mids news : List (ZoneVersions I S)) → AreLeftFrom s index m first olds mids
+      → AreLeftFrom s index (last_of m first) later mids news → AreLeftFrom s index m (first ++ later) olds news
+  on_from m first later index [] [] [] h k = tt
+  on_from m first later index (a ∷ olds) (b ∷ mids) (d ∷ news) h k = (
+    joined s.moment s.left_since a.store b.store d.store (OpensInRun s.opens m (first ++ later) index) (OpensInRun s.opens (last_of m first) later index)
+        (weaker s.moment s.left_since a.store b.store (OpensInRun s.opens m first index) (OpensInRun s.opens m (first ++ later) index) h.0 (λ c left. front s m first later index c left)) k.0
+        (λ c left. behind s m first later index c left),
+    on_from m first later (suc index) olds mids news h.1 k.1,
   )
-  on_from m first later place [] (b ∷ mids) news h k = absurd h
-  on_from m first later place (a ∷ olds) [] news h k = absurd h
-  on_from m first later place [] [] (d ∷ news) h k = absurd k
-  on_from m first later place (a ∷ olds) (b ∷ mids) [] h k = absurd k
+  on_from m first later index [] (b ∷ mids) news h k = absurd h
+  on_from m first later index (a ∷ olds) [] news h k = absurd h
+  on_from m first later index [] [] (d ∷ news) h k = absurd k
+  on_from m first later index (a ∷ olds) (b ∷ mids) [] h k = absurd k
 
-module _ {I S : Type 0} {i : index.Ghosts I} {s : store.Ghosts S} where
+module _ {I S : Type 0} {i : zone_index.Ghosts I} {s : store.Ghosts S} where
   -- Nothing is done to a primary.
   pub leads_nowhere : RestLaw s → (p : Primary I S i s) (m : Machine) → IsKept p m → LeadsThrough p p m []
   leads_nowhere law p m kept =

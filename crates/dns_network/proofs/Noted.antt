@@ -1,7 +1,7 @@
 -- What is reported of turns.
 use Rattle.std.proofs.Common.{◌≡◌, ◌⊎◌, inl, inr, ℕ, ◌<◌, Bool, true, false, Option, List, [], ◌∷◌, ◌++◌, length, refl, ap, sym, subst}
 use Rattle.dns_network.specs.declared.stream.Stream as stream
-use Rattle.dns_zone.specs.declared.index.ZoneIndex as index
+use Rattle.dns_zone.specs.declared.index.ZoneIndex as zone_index
 use Rattle.dns_store.specs.declared.zone_store.ZoneStore as store
 use Rattle.dns_primary.specs.declared.event.Effects.{Effects}
 use Rattle.dns_primary.specs.declared.event.To.{To}
@@ -52,7 +52,7 @@ module _ {L : Type 0} (l : notes.Ghosts L) where
   pub reported_as : (taken : List Note) (old new : L) → AreNoted l taken old new → Took (λ reports. reports ≡ of_notes taken) old new
   reported_as taken old new are = (of_notes taken, refl, notes_reported taken old new are)
 
-module _ {I D S N L : Type 0} {i : index.Ghosts I} {d : store.Ghosts D} (s : stream.Ghosts S) (n : Ghosts N S) (l : notes.Ghosts L) where
+module _ {I D S N L : Type 0} {i : zone_index.Ghosts I} {d : store.Ghosts D} (s : stream.Ghosts S) (n : Ghosts N S) (l : notes.Ghosts L) where
   abbrev log_of : Served I D S N L i d → L
   log_of served = served.notes
 
@@ -79,7 +79,7 @@ module _ {I D S N L : Type 0} {i : index.Ghosts I} {d : store.Ghosts D} (s : str
   come_noted now (Pump number) old given h = ap log_of h
   come_noted now Flush old given h = ap log_of h
   come_noted now (Connect peer) old given h = absurd h
-  come_noted now (Checkpoint place) old given h = absurd h
+  come_noted now (Checkpoint index) old given h = absurd h
   come_noted now (Closed number) old given h = absurd h
 
   closed_noted : (now number : ℕ) (cause : Cause) (old new : Served I D S N L i d) → ClosedFor s l now number cause old new → AreNoted l (notes_of_cause number cause ++ note.Closed number ∷ []) old.notes new.notes

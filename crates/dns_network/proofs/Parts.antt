@@ -1,7 +1,7 @@
 -- The parts of a turn.
 use Rattle.std.proofs.Common.{◌≡◌, ◌⊎◌, inl, inr, ℕ, zero, suc, Bool, true, false, ◌||◌, List, [], ◌∷◌, ◌++◌, length, Option, Some, None, refl, ap, sym, subst, ◌∙◌}
 use Rattle.std.specs.Prelude.{is_some}
-use Rattle.dns_zone.specs.declared.index.ZoneIndex as index
+use Rattle.dns_zone.specs.declared.index.ZoneIndex as zone_index
 use Rattle.dns_store.specs.declared.zone_store.ZoneStore as store
 use Rattle.dns_primary.specs.declared.event.Reply.{Reply}
 use Rattle.dns_network.specs.declared.connection.Connection.{Connection}
@@ -36,23 +36,23 @@ is_none None none = refl
 is_none (Some reply) none = absurd (let clash : true ≡ false = none in cc)
 
 module _ {S : Type 0} where
-  pub open_with : (known : Connection S → Type 0) (place : Option (Option (Connection S))) → IsOpenWith known place → is_open_at place ≡ true
+  pub open_with : (known : Connection S → Type 0) (index : Option (Option (Connection S))) → IsOpenWith known index → is_open_at index ≡ true
   open_with known None is = absurd is
   open_with known (Some None) is = absurd is
   open_with known (Some (Some c)) is = refl
 
-  pub left_open : (place : Option (Option (Connection S))) → has_left_at place ≡ true → is_open_at place ≡ true
+  pub left_open : (index : Option (Option (Connection S))) → has_left_at index ≡ true → is_open_at index ≡ true
   left_open None left = left
   left_open (Some None) left = left
   left_open (Some (Some c)) left = refl
 
   pub open_become : (became : Connection S → Connection S → Type 0) (number : ℕ) (old new : List (Option (Connection S))) → HasBecome became number old new
       → is_open number old ≡ true
-  open_become became number old new (c, e, there, on, set) = ap (λ (place : Option (Option (Connection S))). is_open_at place) there
+  open_become became number old new (c, e, there, on, set) = ap (λ (index : Option (Option (Connection S))). is_open_at index) there
 
   -- no message waits on what is there
-  pub none_held : (place : Option (Option (Connection S))) → ((c : Connection S) → place ≡ Some (Some c) → held_of c ≡ [])
-      → IsGoneOr (λ c. held_of c ≡ []) place
+  pub none_held : (index : Option (Option (Connection S))) → ((c : Connection S) → index ≡ Some (Some c) → held_of c ≡ [])
+      → IsGoneOr (λ c. held_of c ≡ []) index
   none_held None none = tt
   none_held (Some None) none = tt
   none_held (Some (Some c)) none = none c refl
@@ -95,7 +95,7 @@ idle_on (one ∷ rest) last (idle, is) more = (idle, idle_on rest last is more)
 idle_asked : (moments : List TurnMoment) → moments ≡ Asks ∷ [] → AreIdle moments
 idle_asked moments is = subst AreIdle (sym is) (tt, tt)
 
-module _ {I D S N L : Type 0} {i : index.Ghosts I} {d : store.Ghosts D} (s : stream.Ghosts S) (n : Ghosts N S) (l : notes.Ghosts L) (now : ℕ) where
+module _ {I D S N L : Type 0} {i : zone_index.Ghosts I} {d : store.Ghosts D} (s : stream.Ghosts S) (n : Ghosts N S) (l : notes.Ghosts L) (now : ℕ) where
   -- moments, one after the other
   pub moments_on : (first last : List TurnMoment) (a b c : Served I D S N L i d) → AreMoments s n l now first a b → AreMoments s n l now last b c
       → AreMoments s n l now (first ++ last) a c

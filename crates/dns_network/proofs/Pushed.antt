@@ -72,7 +72,7 @@ module _ {S : Type 0} (number : ℕ) (old : List (Option (Connection S))) (size 
       subst P (sym (at ∙ ap Some is)) (ap (slice_set old number) read ∙ set-get_or old number here)
 
   pub closed_there : here ≡ None → is_open number old ≡ false
-  closed_there is = ap (λ (place : Option (Option (Connection S))). is_open_at place) (at ∙ ap Some is)
+  closed_there is = ap (λ (index : Option (Option (Connection S))). is_open_at index) (at ∙ ap Some is)
 
   pub nothing_there : slice_set old number here ≡ old
   nothing_there = ap (slice_set old number) read ∙ set-get_or old number here

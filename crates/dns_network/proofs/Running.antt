@@ -3,7 +3,7 @@ use Rattle.std.proofs.Common.{◌≡◌, ◌⊎◌, inl, inr, ℕ, Bool, true, f
 use Rattle.std.specs.List.{flat_map}
 use Rattle.std.proofs.lemmas.Grind.{flat_map-append}
 use Rattle.dns_network.specs.declared.stream.Stream as stream
-use Rattle.dns_zone.specs.declared.index.ZoneIndex as index
+use Rattle.dns_zone.specs.declared.index.ZoneIndex as zone_index
 use Rattle.dns_store.specs.declared.zone_store.ZoneStore as store
 use Rattle.dns_versions.specs.Each.{Each2}
 use Rattle.dns_primary.specs.declared.event.Effects.{Effects}
@@ -43,7 +43,7 @@ each_on [] later (t ∷ run) more is next = absurd is
 each_on (one ∷ rest) later [] more is next = absurd is
 
 -- A run of these from a machine that a primary keeps, to one that the other keeps.
-record RunsTo {I D : Type 0} {i : index.Ghosts I} {d : store.Ghosts D} (told : List Told) (old new : Primary I D i d) (start : Machine) : Type 0 where
+record RunsTo {I D : Type 0} {i : zone_index.Ghosts I} {d : store.Ghosts D} (told : List Told) (old new : Primary I D i d) (start : Machine) : Type 0 where
   pub run : List Moment
   pub runs : Run start run
   pub each : Each2 IsStepOf told run
@@ -55,7 +55,7 @@ closing_is : (number : ℕ) (fails : List Bool) (m next : Machine) (stated : mac
 closing_is number fails m next stated (inl (none, gives)) = (refl, ap (λ (out : List Sent). all_out out) gives.sent, gives.accepted, gives.noted)
 closing_is number fails m next stated (inr lacks) = absurd (let clash : false ≡ true = lacks.takes in cc)
 
-module _ {I D : Type 0} {i : index.Ghosts I} {d : store.Ghosts D} where
+module _ {I D : Type 0} {i : zone_index.Ghosts I} {d : store.Ghosts D} where
   -- no event is a run of no moment
   none_told : (old new : Primary I D i d) (m : Machine) → new ≡ old → IsKept old m → RunsTo [] old new m
   none_told old new m same kept = record {
@@ -90,7 +90,7 @@ module _ {I D : Type 0} {i : index.Ghosts I} {d : store.Ghosts D} where
 told_append : (first last : List TurnMoment) → flat_map told_in first ++ flat_map told_in last ≡ flat_map told_in (first ++ last)
 told_append first last = sym (flat_map-append told_in first last)
 
-module _ {I D : Type 0} {i : index.Ghosts I} {d : store.Ghosts D} where
+module _ {I D : Type 0} {i : zone_index.Ghosts I} {d : store.Ghosts D} where
   -- an event that a primary takes
   event_told : (event : Event) (effects : Effects) (old new : Primary I D i d) (m : Machine) → TakesEvent old event new effects → IsKept old m
       → RunsTo (told_of event effects ∷ []) old new m
@@ -116,7 +116,7 @@ module _ {I D : Type 0} {i : index.Ghosts I} {d : store.Ghosts D} where
         left = λ law. led_by m (Closed number) step.fails step.stated step.next old new step.any_moment;
       }
 
-module _ {I D S N L : Type 0} {i : index.Ghosts I} {d : store.Ghosts D} (n : Ghosts N S) (l : notes.Ghosts L) where
+module _ {I D S N L : Type 0} {i : zone_index.Ghosts I} {d : store.Ghosts D} (n : Ghosts N S) (l : notes.Ghosts L) where
   -- where the primary stays
   stays : (old new : Served I D S N L i d) (m : Machine) → new.primary ≡ old.primary → IsKept old.primary m → IsKept new.primary m
   stays old new m same kept = subst (λ (p : Primary I D i d). IsKept p m) (sym same) kept
@@ -169,13 +169,13 @@ module _ {I D S N L : Type 0} {i : index.Ghosts I} {d : store.Ghosts D} (n : Gho
   given_stays now (Pump number) old given is = ap (λ (x : Served I D S N L i d). x.primary) is
   given_stays now Flush old given is = ap (λ (x : Served I D S N L i d). x.primary) is
   given_stays now (Connect peer) old given is = absurd is
-  given_stays now (Checkpoint place) old given is = absurd is
+  given_stays now (Checkpoint index) old given is = absurd is
   given_stays now (Closed number) old given is = absurd is
 
   asked_stays : (old new : Served I D S N L i d) → HasAsked n old new → new.primary ≡ old.primary
   asked_stays old new is = ap (λ (x : Served I D S N L i d). x.primary) is.rest
 
-module _ {I D S N L : Type 0} {i : index.Ghosts I} {d : store.Ghosts D} (s : stream.Ghosts S) (n : Ghosts N S) (l : notes.Ghosts L) where
+module _ {I D S N L : Type 0} {i : zone_index.Ghosts I} {d : store.Ghosts D} (s : stream.Ghosts S) (n : Ghosts N S) (l : notes.Ghosts L) where
   moment_told : (now : ℕ) (one : TurnMoment) (old new : Served I D S N L i d) (m : Machine) → IsMoment s n l now one old new → IsKept old.primary m
       → RunsTo (told_in one) old.primary new.primary m
   moment_told now Asks old new m is kept = none_told old.primary new.primary m (asked_stays n l old new is) kept

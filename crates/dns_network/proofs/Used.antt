@@ -51,35 +51,35 @@ module _ {S : Type 0} where
   is_gone known number old new gone =
       subst (λ (cs : List (Option (Connection S))). IsGoneOr known (slice_get cs number)) (sym gone) (let_go known number old)
 
-  pub not_open : (known : Connection S → Type 0) (place : Option (Option (Connection S))) → is_open_at place ≡ false → IsGoneOr known place
+  pub not_open : (known : Connection S → Type 0) (index : Option (Option (Connection S))) → is_open_at index ≡ false → IsGoneOr known index
   not_open known None none = tt
   not_open known (Some None) none = tt
   not_open known (Some (Some c)) none = absurd (let clash : true ≡ false = none in cc)
 
-  pub known_of : (known : Connection S → Type 0) (place : Option (Option (Connection S))) → IsOpenWith known place
-      → (c : Connection S) × (place ≡ Some (Some c)) × known c
+  pub known_of : (known : Connection S → Type 0) (index : Option (Option (Connection S))) → IsOpenWith known index
+      → (c : Connection S) × (index ≡ Some (Some c)) × known c
   known_of known None is = absurd is
   known_of known (Some None) is = absurd is
   known_of known (Some (Some c)) is = (c, refl, is)
 
-  pub open_gone : (known : Connection S → Type 0) (place : Option (Option (Connection S))) → IsOpenWith known place → IsGoneOr known place
+  pub open_gone : (known : Connection S → Type 0) (index : Option (Option (Connection S))) → IsOpenWith known index → IsGoneOr known index
   open_gone known None is = absurd is
   open_gone known (Some None) is = absurd is
   open_gone known (Some (Some c)) is = is
 
-  pub weaker : (P Q : Connection S → Type 0) (place : Option (Option (Connection S))) → ((c : Connection S) → P c → Q c) → IsGoneOr P place
-      → IsGoneOr Q place
+  pub weaker : (P Q : Connection S → Type 0) (index : Option (Option (Connection S))) → ((c : Connection S) → P c → Q c) → IsGoneOr P index
+      → IsGoneOr Q index
   weaker P Q None on is = tt
   weaker P Q (Some None) on is = tt
   weaker P Q (Some (Some c)) on is = on c is
 
   -- Octets are left on a stalled connection, and none on an unused one.
-  pub stalled_left : (now : ℕ) (place : Option (Option (Connection S))) → has_left_at place ≡ false → IsOpenWith (IsStalled now) place → ⊥
+  pub stalled_left : (now : ℕ) (index : Option (Option (Connection S))) → has_left_at index ≡ false → IsOpenWith (IsStalled now) index → ⊥
   stalled_left now None none is = is
   stalled_left now (Some None) none is = is
   stalled_left now (Some (Some c)) none is = is.left (empty (unwritten_of c) (grind (arith, nat_tests, none)))
 
-  pub unused_left : (now : ℕ) (place : Option (Option (Connection S))) → has_left_at place ≡ true → IsOpenWith (IsUnused now) place → ⊥
+  pub unused_left : (now : ℕ) (index : Option (Option (Connection S))) → has_left_at index ≡ true → IsOpenWith (IsUnused now) index → ⊥
   unused_left now None some is = is
   unused_left now (Some None) some is = is
   unused_left now (Some (Some c)) some is =
@@ -96,7 +96,7 @@ module _ {S : Type 0} where
       → slice_get old target ≡ Some (Some c) → (known c → known d) → Is known number old → Is known number (slice_set old target (Some d))
   set_stays known number target [] c d there on is = is
   set_stays known zero zero (x ∷ xs) c d there on is =
-      on (subst (λ (place : Option (Option (Connection S))). IsGoneOr known place) there is)
+      on (subst (λ (index : Option (Option (Connection S))). IsGoneOr known index) there is)
   set_stays known zero (suc target) (x ∷ xs) c d there on is = is
   set_stays known (suc number) zero (x ∷ xs) c d there on is = is
   set_stays known (suc number) (suc target) (x ∷ xs) c d there on is = set_stays known number target xs c d there on is
@@ -117,7 +117,7 @@ module _ {S : Type 0} where
       → IsReplyPushed target reply old new → Is known number old → Is known number new
   pushed_stays known number target reply old new on pushed is = go (slice_get old target) refl pushed
     where
-      go : (place : Option (Option (Connection S))) → slice_get old target ≡ place → IsPushedTo target reply place old new → Is known number new
+      go : (index : Option (Option (Connection S))) → slice_get old target ≡ index → IsPushedTo target reply index old new → Is known number new
       go None there same = subst (Is known number) (sym same) is
       go (Some None) there same = subst (Is known number) (sym same) is
       go (Some (Some c)) there (d, queued, set) = subst (Is known number) (sym set) (set_stays known number target old c d there (on reply c d queued) is)
@@ -137,7 +137,7 @@ module _ {S : Type 0} where
   handed_now now number message old new (c, d, there, on, set) =
       let at : slice_get new number ≡ Some (Some d) =
       ap (λ (cs : List (Option (Connection S))). slice_get cs number) set ∙ set_there old number (Some c) (Some d) there in
-      subst (λ (place : Option (Option (Connection S))). IsGoneOr (IsInUse now) place) (sym at) (inl on.used)
+      subst (λ (index : Option (Option (Connection S))). IsGoneOr (IsInUse now) index) (sym at) (inl on.used)
 
   -- an unused one, to which the next message of a transfer was queued
   pub pumped_in_use : (now number : ℕ) (old new : List (Option (Connection S))) → IsOpenWith (IsUnused now) (slice_get old number)
@@ -147,11 +147,11 @@ module _ {S : Type 0} where
     where
       go : (c : Connection S) × (slice_get old number ≡ Some (Some c)) × IsUnused now c → Is (IsInUse now) number new
       go (c, there, is) =
-          let queued = subst (λ (place : Option (Option (Connection S))). IsPushedTo number message place old new) there pushed in
+          let queued = subst (λ (index : Option (Option (Connection S))). IsPushedTo number message index old new) there pushed in
           let d = queued.0 in
           let at : slice_get new number ≡ Some (Some d) =
           ap (λ (cs : List (Option (Connection S))). slice_get cs number) queued.2 ∙ set_there old number (Some c) (Some d) there in
-          subst (λ (place : Option (Option (Connection S))). IsGoneOr (IsInUse now) place) (sym at) (inr (left_queued message c d queued.1))
+          subst (λ (index : Option (Option (Connection S))). IsGoneOr (IsInUse now) index) (sym at) (inr (left_queued message c d queued.1))
 
   -- what a pump leaves of an unused one
   pub after_pump : (now number : ℕ) (old new : List (Option (Connection S))) → IsOpenWith (IsUnused now) (slice_get old number) → HasPumped number false old new
@@ -167,8 +167,8 @@ module _ {S : Type 0} where
   IsStalledOrUsed now c = IsStalled now c ⊎ (used_of c ≡ now)
 
   -- one of two is known of a connection that is not gone
-  pub either : (P Q : Connection S → Type 0) (place : Option (Option (Connection S))) → IsGoneOr (λ c. P c ⊎ Q c) place
-      → IsOpenWith P place ⊎ IsGoneOr Q place
+  pub either : (P Q : Connection S → Type 0) (index : Option (Option (Connection S))) → IsGoneOr (λ c. P c ⊎ Q c) index
+      → IsOpenWith P index ⊎ IsGoneOr Q index
   either P Q None is = inr tt
   either P Q (Some None) is = inr tt
   either P Q (Some (Some c)) (inl p) = inl p
@@ -206,12 +206,12 @@ module _ {S : Type 0} (s : stream.Ghosts S) where
   written_now now number moved old new (inr (c, d, there, on, set)) not stalled =
       let at : slice_get new number ≡ Some (Some d) =
       ap (λ (cs : List (Option (Connection S))). slice_get cs number) set ∙ set_there old number (Some c) (Some d) there in
-      let is : IsStalled now c = subst (λ (place : Option (Option (Connection S))). IsOpenWith (IsStalled now) place) there stalled in
+      let is : IsStalled now c = subst (λ (index : Option (Option (Connection S))). IsOpenWith (IsStalled now) index) there stalled in
       let used : used_of d ≡ now = elim (wrote now c d is on.moved) [
         | inl used ↦ used
-        | inr still ↦ absurd (not (subst (λ (place : Option (Option (Connection S))). IsOpenWith (IsStalled now) place) (sym at) still))
+        | inr still ↦ absurd (not (subst (λ (index : Option (Option (Connection S))). IsOpenWith (IsStalled now) index) (sym at) still))
       ] in
-      subst (λ (place : Option (Option (Connection S))). IsGoneOr (λ c. used_of c ≡ now) place) (sym at) used
+      subst (λ (index : Option (Option (Connection S))). IsGoneOr (λ c. used_of c ≡ now) index) (sym at) used
 
   -- An unused connection of which a piece was read, and that holds no message, is silent.
   read_silent : (now : ℕ) (c d : Connection S) → HasMoved s now c d → held_of d ≡ [] → IsUnusedOrInUse now c → IsSilent now d ⊎ IsInUse now d
@@ -224,8 +224,8 @@ module _ {S : Type 0} (s : stream.Ghosts S) where
       go (inr still) (inr (inl used)) = inr (inl (still.used ∙ used))
       go (inr still) (inr (inr left)) = inr (inr (λ e. left (sym still.left ∙ e)))
 
-  still_silent : (now : ℕ) (place : Option (Option (Connection S))) → ((c : Connection S) → place ≡ Some (Some c) → held_of c ≡ [])
-      → IsGoneOr (IsUnusedOrInUse now) place → IsGoneOr (λ c. IsSilent now c ⊎ IsInUse now c) place
+  still_silent : (now : ℕ) (index : Option (Option (Connection S))) → ((c : Connection S) → index ≡ Some (Some c) → held_of c ≡ [])
+      → IsGoneOr (IsUnusedOrInUse now) index → IsGoneOr (λ c. IsSilent now c ⊎ IsInUse now c) index
   still_silent now None none is = tt
   still_silent now (Some None) none is = tt
   still_silent now (Some (Some c)) none (inl unused) = inl (record { left = unused.left; held = none c refl; used = unused.used })
@@ -239,8 +239,8 @@ module _ {S : Type 0} (s : stream.Ghosts S) where
   none_handed now number moved old mid (inr (c, d, there, on, set)) none is =
       let at : slice_get mid number ≡ Some (Some d) =
       ap (λ (cs : List (Option (Connection S))). slice_get cs number) set ∙ set_there old number (Some c) (Some d) there in
-      let was : IsUnusedOrInUse now c = subst (λ (place : Option (Option (Connection S))). IsGoneOr (IsUnusedOrInUse now) place) there is in
-      subst (λ (place : Option (Option (Connection S))). IsGoneOr (λ c. IsSilent now c ⊎ IsInUse now c) place) (sym at)
+      let was : IsUnusedOrInUse now c = subst (λ (index : Option (Option (Connection S))). IsGoneOr (IsUnusedOrInUse now) index) there is in
+      subst (λ (index : Option (Option (Connection S))). IsGoneOr (λ c. IsSilent now c ⊎ IsInUse now c) index) (sym at)
       (read_silent now c d on.moved (none d at) was)
 
   none_heard : (now number : ℕ) (moved : Moved) (old mid : List (Option (Connection S))) → HasReadAt s now number moved old mid
@@ -251,8 +251,8 @@ module _ {S : Type 0} (s : stream.Ghosts S) where
       still_silent now (slice_get mid number) none (subst (Is (IsUnusedOrInUse now) number) (sym same) is)
 
   -- ... and where it is not silent, it is in use
-  not_silent : (now : ℕ) (place : Option (Option (Connection S))) → (IsOpenWith (IsSilent now) place → ⊥) → IsGoneOr (λ c. IsSilent now c ⊎ IsInUse now c) place
-      → IsGoneOr (IsInUse now) place
+  not_silent : (now : ℕ) (index : Option (Option (Connection S))) → (IsOpenWith (IsSilent now) index → ⊥) → IsGoneOr (λ c. IsSilent now c ⊎ IsInUse now c) index
+      → IsGoneOr (IsInUse now) index
   not_silent now None not is = tt
   not_silent now (Some None) not is = tt
   not_silent now (Some (Some c)) not (inl silent) = absurd (not silent)

@@ -1,7 +1,7 @@
 -- What is known of a connection while replies go out, and what a pump leaves of it.
 use Rattle.std.proofs.Common.{◌≡◌, ◌⊎◌, inl, inr, ℕ, Bool, true, false, List, [], ◌∷◌, ◌++◌, map, get_or, Option, Some, None, refl, ap, sym, subst, ◌∙◌, slice_set}
 use Rattle.std.specs.Prelude.{is_some}
-use Rattle.dns_zone.specs.declared.index.ZoneIndex as index
+use Rattle.dns_zone.specs.declared.index.ZoneIndex as zone_index
 use Rattle.dns_store.specs.declared.zone_store.ZoneStore as store
 use Rattle.dns_transfer.specs.Session.{Sending}
 use Rattle.dns_records.specs.Record.{Record}
@@ -70,7 +70,7 @@ is_pumped number true message old new is (inr (none, same)) = absurd (let clash 
 is_pumped number false message old new is (inl queued) = inr queued
 is_pumped number false message old new is (inr (none, same)) = inl same
 
-module _ {I D S N L : Type 0} {i : index.Ghosts I} {d : store.Ghosts D} (n : Ghosts N S) (l : notes.Ghosts L) where
+module _ {I D S N L : Type 0} {i : zone_index.Ghosts I} {d : store.Ghosts D} (n : Ghosts N S) (l : notes.Ghosts L) where
   abbrev places_in : Served I D S N L i d → List (Option (Connection S))
   places_in served = served.connections
 

@@ -16,7 +16,7 @@ module _ {S : Type 0} where
   -- the connection that is there
   abbrev pub connection_in : Option (Option (Connection S)) → Option (Connection S)
   connection_in None = None
-  connection_in (Some place) = place
+  connection_in (Some index) = index
 
   -- the one with that number
   abbrev pub connection_at : ℕ → List (Option (Connection S)) → Option (Connection S)

@@ -3,7 +3,7 @@ use Rattle.std.specs.Prelude.{◌≡◌, ◌⊎◌, ◌<◌, ◌++◌, ℕ, Bool
 use Rattle.std.specs.Prelude.{length, slice_set}
 use Rattle.dns_network.specs.declared.connection.Connection.{Connection}
 use Rattle.dns_network.specs.Connections.{IsReplyPushed, is_open, places_of}
-use Rattle.dns_zone.specs.declared.index.ZoneIndex as index
+use Rattle.dns_zone.specs.declared.index.ZoneIndex as zone_index
 use Rattle.dns_store.specs.declared.zone_store.ZoneStore as store
 use Rattle.dns_primary.specs.declared.event.To.{To}
 use Rattle.dns_primary.specs.declared.event.To.TheVariants as to
@@ -36,7 +36,7 @@ abbrev pub reply_to_send : Going → To × List ℕ
 reply_to_send going = (going.to, going.octets)
 
 -- A primary took the step of an event, whichever machine it kept.
-abbrev pub TakesEvent : {I D : Type 0} {i : index.Ghosts I} {d : store.Ghosts D} → Primary I D i d → Event
+abbrev pub TakesEvent : {I D : Type 0} {i : zone_index.Ghosts I} {d : store.Ghosts D} → Primary I D i d → Event
     → Primary I D i d → Effects → Type 0
 TakesEvent old event new effects = (m : Machine) → IsKept old m → SteppedBy m event old new effects
 
@@ -55,7 +55,7 @@ RestsAsBefore old new = (second : ℕ) → rested_of new ≡ Some second → res
 
 -- A turn is made with the same network, primary and observer as before: its references are the same, so that
 -- what is done in it is done to what it was made with.
-abbrev pub IsSameTurn : {I D N L : Type 0} {i : index.Ghosts I} {d : store.Ghosts D} → Turn I D N L i d
+abbrev pub IsSameTurn : {I D N L : Type 0} {i : zone_index.Ghosts I} {d : store.Ghosts D} → Turn I D N L i d
     → Turn I D N L i d → Type 0
 IsSameTurn old new =
     (new.network.ghost_name ≡ old.network.ghost_name)
@@ -63,13 +63,13 @@ IsSameTurn old new =
     × (new.notes.ghost_name ≡ old.notes.ghost_name)
 
 -- A primary, connections by their numbers, a network, and what takes notes.
-pub record Served (I D S N L : Type 0) (i : index.Ghosts I) (d : store.Ghosts D) : Type 0 where
+pub record Served (I D S N L : Type 0) (i : zone_index.Ghosts I) (d : store.Ghosts D) : Type 0 where
   pub primary : Primary I D i d
   pub connections : List (Option (Connection S))
   pub network : N
   pub notes : L
 
-module _ {I D S N L : Type 0} {i : index.Ghosts I} {d : store.Ghosts D} where
+module _ {I D S N L : Type 0} {i : zone_index.Ghosts I} {d : store.Ghosts D} where
   abbrev pub served : Primary I D i d → Edge S → N → L → Served I D S N L i d
   served primary edge network notes =
       record { primary = primary; connections = connections_of edge; network = network; notes = notes }

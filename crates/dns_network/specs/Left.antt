@@ -1,10 +1,10 @@
 -- What a crash within a run of the machine leaves of the stores of a primary.
 use Rattle.std.specs.Prelude.{◌≡◌, ◌⊎◌, ℕ, suc, List, [], ◌∷◌, Option, Some, slice_get}
-use Rattle.dns_zone.specs.declared.index.ZoneIndex as index
+use Rattle.dns_zone.specs.declared.index.ZoneIndex as zone_index
 use Rattle.dns_sectors.specs.Device.{Content, LeavesOnly}
 use Rattle.dns_store.specs.declared.zone_store.ZoneStore as store
 use Rattle.dns_store.specs.Versions.{Kept, Opened, OpensAsLeft, Shape}
-use Rattle.dns_versions.specs.declared.pending.PendingZone.{PendingZone}
+use Rattle.dns_versions.specs.declared.zone_versions.ZoneVersions.{ZoneVersions}
 use Rattle.dns_primary.specs.Machine.{Machine, ZoneState, kept_of}
 use Rattle.dns_primary.specs.Runs.{Moment, Took, Stopped, Configured, machine_after}
 use Rattle.dns_primary.specs.Step.{Event, base_moved}
@@ -13,40 +13,40 @@ use Rattle.dns_primary.specs.declared.primary.Primary.{Primary}
 
 -- The versions of the zone there, as they rest between two events.
 abbrev pub RestsAs : (Shape → Opened → Content → Type 0) → Machine → ℕ → Content → Type 0
-RestsAs opens m place c =
-    (z : ZoneState) × (slice_get m.zones place ≡ Some z) × OpensAsLeft opens (kept_of z) c
+RestsAs opens m index c =
+    (z : ZoneState) × (slice_get m.zones index ≡ Some z) × OpensAsLeft opens (kept_of z) c
 
 -- Those that a crash within the event leaves.
 abbrev pub OpensWithin : (Shape → Opened → Content → Type 0) → Machine → Event → ℕ → Content → Type 0
-OpensWithin opens m event place c =
-    (k : Option ℕ × ZoneState) × (slice_get (with_rooms (base_moved m event) m.zones) place ≡ Some k)
+OpensWithin opens m event index c =
+    (k : Option ℕ × ZoneState) × (slice_get (with_rooms (base_moved m event) m.zones) index ≡ Some k)
     × OpensAsEvent opens k.0 k.1 c
 
 abbrev pub OpensWithinMoment : (Shape → Opened → Content → Type 0) → Machine → Moment → ℕ → Content → Type 0
-OpensWithinMoment opens m (Took event fails effects new) place c = OpensWithin opens m event place c
-OpensWithinMoment opens m (Stopped event tries new) place c = OpensWithin opens m event place c
-OpensWithinMoment opens m (Configured new) place c = ⊥
+OpensWithinMoment opens m (Took event fails effects new) index c = OpensWithin opens m event index c
+OpensWithinMoment opens m (Stopped event tries new) index c = OpensWithin opens m event index c
+OpensWithinMoment opens m (Configured new) index c = ⊥
 
 -- A crash fell somewhere in the run from this machine: before its first moment, within one, or after the
 -- last.
 abbrev pub OpensInRun : (Shape → Opened → Content → Type 0) → Machine → List Moment → ℕ → Content → Type 0
-OpensInRun opens m [] place c = RestsAs opens m place c
-OpensInRun opens m (t ∷ run) place c =
-    RestsAs opens m place c
-    ⊎ OpensWithinMoment opens m t place c
-    ⊎ OpensInRun opens (machine_after t) run place c
+OpensInRun opens m [] index c = RestsAs opens m index c
+OpensInRun opens m (t ∷ run) index c =
+    RestsAs opens m index c
+    ⊎ OpensWithinMoment opens m t index c
+    ⊎ OpensInRun opens (machine_after t) run index c
 
 -- A crash at any moment between the two leaves each store so, from this position on.
 abbrev pub AreLeftFrom : {I S : Type 0} → store.Ghosts S → ℕ → Machine → List Moment
-    → List (PendingZone I S) → List (PendingZone I S) → Type 0
-AreLeftFrom s place m run [] [] = Unit {0}
-AreLeftFrom s place m run (a ∷ olds) (b ∷ news) =
-    LeavesOnly s.moment s.left_since a.store b.store (OpensInRun s.opens m run place)
-    × AreLeftFrom s (suc place) m run olds news
-AreLeftFrom s place m run _ _ = ⊥
+    → List (ZoneVersions I S) → List (ZoneVersions I S) → Type 0
+AreLeftFrom s index m run [] [] = Unit {0}
+AreLeftFrom s index m run (a ∷ olds) (b ∷ news) =
+    LeavesOnly s.moment s.left_since a.store b.store (OpensInRun s.opens m run index)
+    × AreLeftFrom s (suc index) m run olds news
+AreLeftFrom s index m run _ _ = ⊥
 
 -- The run led from one primary to another: a crash at any moment of it leaves each zone's store as it allows.
-abbrev pub LeadsThrough : {I S : Type 0} {i : index.Ghosts I} {s : store.Ghosts S} → Primary I S i s
+abbrev pub LeadsThrough : {I S : Type 0} {i : zone_index.Ghosts I} {s : store.Ghosts S} → Primary I S i s
     → Primary I S i s → Machine → List Moment → Type 0
 LeadsThrough {s} old new m run = AreLeftFrom s 0 m run old.pending.items new.pending.items
 

@@ -14,7 +14,7 @@ use Rattle.dns_network.specs.Steps.{AreSteps}
 abbrev pub notes_of : Noted → List Note
 notes_of noted.Nothing = []
 notes_of noted.OutOfMemory = OutOfMemory ∷ []
-notes_of (noted.Device place) = Device place ∷ []
+notes_of (noted.Device index) = Device index ∷ []
 
 -- of a peer that gets this number, or none, so that its connection is closed at once
 abbrev pub notes_of_opened : Option ℕ → Peer → List Note

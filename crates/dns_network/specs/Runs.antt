@@ -1,7 +1,7 @@
 -- What turns are of the machine.
 use Rattle.std.specs.Prelude.{◌≡◌, ℕ, Bool, true, false, List, [], ◌∷◌, Option, None}
 use Rattle.std.specs.List.{flat_map}
-use Rattle.dns_zone.specs.declared.index.ZoneIndex as index
+use Rattle.dns_zone.specs.declared.index.ZoneIndex as zone_index
 use Rattle.dns_store.specs.declared.zone_store.ZoneStore as store
 use Rattle.dns_network.specs.declared.stream.Stream as stream
 use Rattle.dns_versions.specs.Each.{Each2}
@@ -78,7 +78,7 @@ pub record IsRunOf (told : List Told) (start : Machine) (run : List Moment) : Ty
 
 -- Whatever turns are made, and whichever machine the primary kept before them: a run of that machine has
 -- their events, and the primary keeps the machine at its end.
-abbrev pub TurnsAreRuns : {I D S N L : Type 0} → index.Ghosts I → store.Ghosts D → stream.Ghosts S
+abbrev pub TurnsAreRuns : {I D S N L : Type 0} → zone_index.Ghosts I → store.Ghosts D → stream.Ghosts S
     → Ghosts N S → notes.Ghosts L → Type 0
 TurnsAreRuns {I = I} {D = D} {S = S} {N = N} {L = L} i d s n l =
     (turns : List (List TurnMoment)) (old new : Served I D S N L i d) (start : Machine)

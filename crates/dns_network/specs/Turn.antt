@@ -7,7 +7,7 @@ use Rattle.dns_network.specs.declared.stream.Stream as stream
 use Rattle.dns_network.specs.Closing.{Cause, GivesCause, HasEnded, Silent, Stalled, NoMemory, NoPlace}
 use Rattle.dns_network.specs.Connection.{HasHandedOver, MovesOn, stream_of, unhandled, unwritten_of, used_of}
 use Rattle.dns_network.specs.Connections.{is_open, open_connections}
-use Rattle.dns_zone.specs.declared.index.ZoneIndex as index
+use Rattle.dns_zone.specs.declared.index.ZoneIndex as zone_index
 use Rattle.dns_store.specs.declared.zone_store.ZoneStore as store
 use Rattle.dns_primary.specs.declared.event.Peer.{Peer}
 use Rattle.dns_primary.specs.declared.event.Effects.{Effects}
@@ -59,10 +59,10 @@ module _ {S : Type 0} where
       ⊎ ((watched : S) × n.watches asked number stream (Some watched) last × IsPut now watched number old new)
 
 -- Whichever machine a primary kept, no reply waits for a flush.
-abbrev pub NoneWaits : {I D : Type 0} {i : index.Ghosts I} {d : store.Ghosts D} → Primary I D i d → Type 0
+abbrev pub NoneWaits : {I D : Type 0} {i : zone_index.Ghosts I} {d : store.Ghosts D} → Primary I D i d → Type 0
 NoneWaits primary = (m : Machine) → IsKept primary m → m.waiting ≡ []
 
-module _ {I D S N L : Type 0} {i : index.Ghosts I} {d : store.Ghosts D} where
+module _ {I D S N L : Type 0} {i : zone_index.Ghosts I} {d : store.Ghosts D} where
   -- The connection of a peer is taken up: the primary is told of it, it is noted, and it is put in its place.
   pub record IsTakenUp (n : Ghosts N S) (l : notes.Ghosts L) (now : ℕ) (stream : S) (peer : Peer)
       (effects : Effects) (old new : Served I D S N L i d) : Type 0 where
@@ -127,7 +127,7 @@ module _ {I D S N L : Type 0} {i : index.Ghosts I} {d : store.Ghosts D} where
   EventComes n now (Pump number) old new = new ≡ old
   EventComes n now Flush old new = new ≡ old
   EventComes n now (Connect peer) old new = ⊥
-  EventComes n now (Checkpoint place) old new = ⊥
+  EventComes n now (Checkpoint index) old new = ⊥
   EventComes n now (Closed number) old new = ⊥
 
   -- An event came, the primary took it, it was observed, and its effects have happened.

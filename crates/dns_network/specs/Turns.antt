@@ -1,7 +1,7 @@
 -- What is done in a turn, part by part, and turns one after the other.
 use Rattle.std.specs.Prelude.{◌≡◌, ◌⊎◌, ℕ, zero, suc, Bool, true, false, List, [], ◌∷◌, ◌++◌, length, is_some}
 use Rattle.std.specs.Prelude.{Option, Some, None, slice_get}
-use Rattle.dns_zone.specs.declared.index.ZoneIndex as index
+use Rattle.dns_zone.specs.declared.index.ZoneIndex as zone_index
 use Rattle.dns_store.specs.declared.zone_store.ZoneStore as store
 use Rattle.dns_primary.specs.declared.event.Peer.{Peer}
 use Rattle.dns_primary.specs.declared.event.Effects.{Effects}
@@ -33,7 +33,7 @@ FindsNothing (Datagram peer octets) effects = ⊥
 FindsNothing (Connect peer) effects = ⊥
 FindsNothing (Arrives number octets) effects = ⊥
 FindsNothing Flush effects = ⊥
-FindsNothing (Checkpoint place) effects = ⊥
+FindsNothing (Checkpoint index) effects = ⊥
 FindsNothing (Closed number) effects = ⊥
 
 -- What is done where there is nothing to do: the network is asked, and each transfer; and each stream, which
@@ -82,7 +82,7 @@ Writes number moments =
     (answer : Moved) × (rest : List TurnMoment) × (moments ≡ Moves number answer ∷ rest)
     × UnlessEnded number answer (MayStall number) rest
 
-module _ {I D S N L : Type 0} {i : index.Ghosts I} {d : store.Ghosts D} where
+module _ {I D S N L : Type 0} {i : zone_index.Ghosts I} {d : store.Ghosts D} where
   -- On the connection with a number no message waits to be handled, unless it is gone.
   abbrev pub NoneIsHeld : ℕ → Served I D S N L i d → Type 0
   NoneIsHeld number now = IsGoneOr (λ c. held_of c ≡ []) (slice_get now.connections number)
@@ -109,7 +109,7 @@ module _ {I D S N L : Type 0} {i : index.Ghosts I} {d : store.Ghosts D} where
       × UnlessEnded number answer (λ done. HandlesOne number done new) rest)
       ⊎ (moments ≡ Closes number NoMemory ∷ [])
 
-module _ {I D S N L : Type 0} {i : index.Ghosts I} {d : store.Ghosts D} (s : stream.Ghosts S)
+module _ {I D S N L : Type 0} {i : zone_index.Ghosts I} {d : store.Ghosts D} (s : stream.Ghosts S)
     (n : Ghosts N S) (l : notes.Ghosts L) (now : ℕ) where
   -- The network is asked for a connection: one came, or none.
   pub record IsAccepting (one : Bool) (moments : List TurnMoment) (old new : Served I D S N L i d)
@@ -211,7 +211,7 @@ module _ {I D S N L : Type 0} {i : index.Ghosts I} {d : store.Ghosts D} (s : str
     pub done : AreDone rested moments begun ended
     pub ends : HasNoted l note.Ends ended new
 
-module _ {I D S N L : Type 0} {i : index.Ghosts I} {d : store.Ghosts D} where
+module _ {I D S N L : Type 0} {i : zone_index.Ghosts I} {d : store.Ghosts D} where
   -- A turn, and before and after it the network may be asked, or wait.
   pub record IsRound (s : stream.Ghosts S) (n : Ghosts N S) (l : notes.Ghosts L) (moments : List TurnMoment)
       (old new : Served I D S N L i d) : Type 0 where

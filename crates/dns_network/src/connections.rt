@@ -35,15 +35,15 @@ impl<S: Stream + Drop> Connections<S> {
 
     /// Puts a connection under its number. One whose number is that of no place is handed back.
     pub fn insert(&mut self, number: usize, connection: Connection<S>) -> Result<(), Connection<S>>
-        ensures place { OnOk result (number < length (places_of self.old)) }
+        ensures below { OnOk result (number < length (places_of self.old)) }
         ensures put { OnOk result
             (places_of self.new ≡ slice_set (places_of self.old) number (Some connection)) }
         ensures back { IfErr result (λ c. (c ≡ connection) × (length (places_of self.old) ≤ number)) }
         ensures still { OnErr result (places_of self.new ≡ places_of self.old) }
     {
         match self.places.get_mut(number) {
-            Some(place) => {
-                *place = Some(connection);
+            Some(slot) => {
+                *slot = Some(connection);
                 Ok(())
             }
             None => Err(connection),
@@ -62,7 +62,7 @@ impl<S: Stream + Drop> Connections<S> {
         ensures { result ≡ is_open number (places_of self.now) }
     {
         match self.places.get(number) {
-            Some(place) => place.is_some(),
+            Some(slot) => slot.is_some(),
             None => false,
         }
     }
@@ -78,15 +78,15 @@ impl<S: Stream + Drop> Connections<S> {
     pub fn open_count(&self) -> usize
         ensures { result ≡ open_connections (places_of self.now) }
     {
-        self.places.iter().filter(|place| place.is_some()).count()
+        self.places.iter().filter(|slot| slot.is_some()).count()
     }
 
     /// Lets go the connection with that number, and its stream.
     pub fn remove(&mut self, number: usize)
         ensures { places_of self.new ≡ slice_set (places_of self.old) number None }
     {
-        if let Some(place) = self.places.get_mut(number) {
-            *place = None;
+        if let Some(slot) = self.places.get_mut(number) {
+            *slot = None;
         }
     }
 

@@ -162,10 +162,10 @@ impl Queue {
         ensures put { result ≡ true → self.new ≡ self.old ++ (octets.now, peer) ∷ [] }
         ensures full { result ≡ false → self.new ≡ self.old }
     {
-        let Some(place) = self.places.get_mut(self.end) else {
+        let Some(slot) = self.places.get_mut(self.end) else {
             return false;
         };
-        if !place.put(octets, peer) {
+        if !slot.put(octets, peer) {
             return false;
         }
         self.end += 1;
@@ -181,10 +181,10 @@ impl Queue {
     {
         self.end = 0;
         self.done = 0;
-        let Some(place) = self.places.first_mut() else {
+        let Some(slot) = self.places.first_mut() else {
             return false;
         };
-        if !place.read(socket) {
+        if !slot.read(socket) {
             return false;
         }
         self.end = 1;
@@ -200,10 +200,10 @@ impl Queue {
         ensures none { result ≡ false
             → (self.new ≡ self.old) × AreRead S.DatagramSocket [] socket.old socket.new }
     {
-        let Some(place) = self.places.get_mut(self.end) else {
+        let Some(slot) = self.places.get_mut(self.end) else {
             return false;
         };
-        if !place.read(socket) {
+        if !slot.read(socket) {
             return false;
         }
         self.end += 1;

@@ -530,6 +530,6 @@ fn tell<L: Observer>(notes: &mut L, noted: Noted)
     match noted {
         Noted::Nothing => {}
         Noted::OutOfMemory => notes.note(Note::OutOfMemory),
-        Noted::Device(place) => notes.note(Note::Device(place)),
+        Noted::Device(index) => notes.note(Note::Device(index)),
     }
 }

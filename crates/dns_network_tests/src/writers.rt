@@ -1,6 +1,6 @@
 //! Writers that fail after each octet in turn.
 use crate::given::ZONE;
-use dns_commands::{check, replay};
+use dns_commands::{Run, check, replay};
 use dns_configuration::{DONE, FAILED, File, REFUSED};
 use dns_fixtures::zone;
 use dns_masterfile::print_zone;
@@ -68,10 +68,18 @@ fn file<'a>(path: &'a str, text: &'a str) -> File<'a> {
 }
 
 /// The exit status of a script whose writers fail.
-fn replayed(alloc: Global, heap: Heap, text: &str, out: &mut Full, err: &mut Full) -> u8 {
+fn replayed(alloc: Global, heap: Heap, text: &str, out: Full, err: Full) -> u8 {
     let (config, script) = (file("c", CONFIG), file("s", text));
     let files = [file("f", ZONE)];
-    replay(alloc, heap, &config, &files, &script, out, err)
+    let mut run = Run {
+        alloc,
+        heap,
+        devices: (),
+        explain: false,
+        out,
+        err,
+    };
+    replay(&mut run, &config, &files, &script)
 }
 
 /// That of a zone which is printed.
@@ -86,7 +94,7 @@ fn printed(heap: Heap, text: &str, out: &mut Full) -> u8 {
 fn status(alloc: Global, heap: Heap, verb: Verb, text: &str, out: usize, err: usize) -> u8 {
     let (mut out, mut err) = (Full { left: out }, Full { left: err });
     match verb {
-        Verb::Replay => replayed(alloc, heap, text, &mut out, &mut err),
+        Verb::Replay => replayed(alloc, heap, text, out, err),
         Verb::Check => check(heap, &file("f", text), "example.", &mut out, &mut err),
         Verb::Print => printed(heap, text, &mut out),
     }

@@ -6,7 +6,7 @@ use Rattle.std.proofs.lemmas.Iterator.Adapters.{position_from-zero}
 use Rattle.dns_names.specs.Name.{Labels, names_eq}
 use Rattle.dns_zone.specs.Zone.{Zone}
 use Rattle.dns_store.specs.Versions.{Kept}
-use Rattle.dns_versions.specs.declared.pending.PendingZone.{PendingZone}
+use Rattle.dns_versions.specs.declared.zone_versions.ZoneVersions.{ZoneVersions}
 use Rattle.dns_primary.specs.Machine.{ZoneState, kept_of}
 use Rattle.dns_versions.specs.Each.{Each2}
 use Rattle.dns_versions.specs.Held.{HasVersions}
@@ -38,7 +38,7 @@ chosen true false i x y e f = absurd (cc e)
 chosen false true i x y e f = absurd (cc e)
 chosen false false i x y e f = f
 
-from_place : {I S : Type 0} (keeps : S → Kept → Type 0) (apex : Labels) (i : ℕ) (zones : List Zone) (pending : List (PendingZone I S)) (states : List ZoneState) → HaveVersions keeps zones pending states
+from_place : {I S : Type 0} (keeps : S → Kept → Type 0) (apex : Labels) (i : ℕ) (zones : List Zone) (pending : List (ZoneVersions I S)) (states : List ZoneState) → HaveVersions keeps zones pending states
     → position_from (λ z. names_eq z.apex apex) i zones ≡ option_map (λ n. i + n) (zone_position apex states)
 from_place keeps apex i [] [] [] each = refl
 from_place keeps apex i (z ∷ zones) (b ∷ pending) (s ∷ states) each =
@@ -46,7 +46,7 @@ from_place keeps apex i (z ∷ zones) (b ∷ pending) (s ∷ states) each =
     (ap (λ (x : Zone). names_eq x.apex apex) each.0.zone_is) (from_place keeps apex (i + 1) zones pending states each.1 ∙ moved i (zone_position apex states))
 from_place keeps apex i _ _ _ each = absurd each
 
-pub same_place : {I S : Type 0} (keeps : S → Kept → Type 0) (apex : Labels) (zones : List Zone) (pending : List (PendingZone I S)) (states : List ZoneState) → HaveVersions keeps zones pending states
+pub same_place : {I S : Type 0} (keeps : S → Kept → Type 0) (apex : Labels) (zones : List Zone) (pending : List (ZoneVersions I S)) (states : List ZoneState) → HaveVersions keeps zones pending states
     → position (λ z. names_eq z.apex apex) zones ≡ zone_position apex states
 same_place keeps apex zones pending states each = position_from-zero (λ (z : Zone). names_eq z.apex apex) zones ∙ from_place keeps apex 0 zones pending states each ∙ from_zero (zone_position apex states)
 
@@ -61,22 +61,22 @@ get2 R (x ∷ xs) (z ∷ ys) (suc i) d y each e = get2 R xs ys i d y each.1 e
 get2 R _ _ i d y each e = absurd each
 
 -- the zone at a position that was found
-pub record At {I S : Type 0} (keeps : S → Kept → Type 0) (zones : List Zone) (pending : List (PendingZone I S)) (settings : List ZoneSpec) (states : List ZoneState) (place : ℕ) (b : PendingZone I S) (s : ZoneSpec) : Type 0 where
+pub record At {I S : Type 0} (keeps : S → Kept → Type 0) (zones : List Zone) (pending : List (ZoneVersions I S)) (settings : List ZoneSpec) (states : List ZoneState) (index : ℕ) (b : ZoneVersions I S) (s : ZoneSpec) : Type 0 where
   pub zone : Zone
   pub state : ZoneState
-  pub there : slice_get states place ≡ Some state
-  pub held : HasVersions keeps zone (slice_index_or pending place b) (kept_of state)
-  pub set : IsSet (slice_index_or settings place s) state
+  pub there : slice_get states index ≡ Some state
+  pub held : HasVersions keeps zone (slice_index_or pending index b) (kept_of state)
+  pub set : IsSet (slice_index_or settings index s) state
 
-pub at_place : {I S : Type 0} (keeps : S → Kept → Type 0) (zones : List Zone) (pending : List (PendingZone I S)) (settings : List ZoneSpec) (states : List ZoneState) (place : ℕ) (b : PendingZone I S) (s : ZoneSpec)
-    → HaveVersions keeps zones pending states → Each2 IsSet settings states → place < length pending → At keeps zones pending settings states place b s
-at_place {I} {S} keeps zones pending settings states place b s held set lt =
-    let k = get3 (λ (z : Zone) (b : PendingZone I S) (k : Kept). HasVersions keeps z b k) zones pending (map kept_of states) place (record { apex = []; records = [] }) b held lt in
-    let z = mapped states place k.0 k.1 in
+pub at_place : {I S : Type 0} (keeps : S → Kept → Type 0) (zones : List Zone) (pending : List (ZoneVersions I S)) (settings : List ZoneSpec) (states : List ZoneState) (index : ℕ) (b : ZoneVersions I S) (s : ZoneSpec)
+    → HaveVersions keeps zones pending states → Each2 IsSet settings states → index < length pending → At keeps zones pending settings states index b s
+at_place {I} {S} keeps zones pending settings states index b s held set lt =
+    let k = get3 (λ (z : Zone) (b : ZoneVersions I S) (k : Kept). HasVersions keeps z b k) zones pending (map kept_of states) index (record { apex = []; records = [] }) b held lt in
+    let z = mapped states index k.0 k.1 in
     record {
-      zone = slice_index_or zones place (record { apex = []; records = [] });
+      zone = slice_index_or zones index (record { apex = []; records = [] });
       state = z.0;
       there = z.1;
-      held = subst (λ (k : Kept). HasVersions keeps (slice_index_or zones place (record { apex = []; records = [] })) (slice_index_or pending place b) k) (sym z.2) k.2;
-      set = get2 IsSet settings states place s z.0 set z.1;
+      held = subst (λ (k : Kept). HasVersions keeps (slice_index_or zones index (record { apex = []; records = [] })) (slice_index_or pending index b) k) (sym z.2) k.2;
+      set = get2 IsSet settings states index s z.0 set z.1;
     }

@@ -36,18 +36,18 @@ flush_refuses fails m = released_refuse (flushed_zones fails m.zones) m.waiting
 -- what is refused before it is judged gets another code than NOERROR
 abbrev IsRefusing : Admission → Type 0
 IsRefusing (Rejects rcode) = rcode ≢ 0
-IsRefusing (Admits place z) = Unit {0}
+IsRefusing (Admits index z) = Unit {0}
 
-in_refuses : (address : IpAddr) (place : ℕ) (found : Option ZoneState) → IsRefusing (admission_in address place found)
-in_refuses address place None = λ e. absurd (omega (arith, e))
-in_refuses address place (Some z) =
-    tested IsRefusing (not (z.setting.may_update address)) (Rejects rcode_refused) (if z.closed then Rejects rcode_servfail else Admits place z)
+in_refuses : (address : IpAddr) (index : ℕ) (found : Option ZoneState) → IsRefusing (admission_in address index found)
+in_refuses address index None = λ e. absurd (omega (arith, e))
+in_refuses address index (Some z) =
+    tested IsRefusing (not (z.setting.may_update address)) (Rejects rcode_refused) (if z.closed then Rejects rcode_servfail else Admits index z)
     (λ _. λ e. absurd (omega (arith, e)))
-    (λ _. tested IsRefusing z.closed (Rejects rcode_servfail) (Admits place z) (λ _. λ e. absurd (omega (arith, e))) (λ _. tt))
+    (λ _. tested IsRefusing z.closed (Rejects rcode_servfail) (Admits index z) (λ _. λ e. absurd (omega (arith, e))) (λ _. tt))
 
-at_refuses : (zones : List ZoneState) (address : IpAddr) (place : Option ℕ) → IsRefusing (admission_at zones address place)
+at_refuses : (zones : List ZoneState) (address : IpAddr) (index : Option ℕ) → IsRefusing (admission_at zones address index)
 at_refuses zones address None = λ e. absurd (omega (arith, e))
-at_refuses zones address (Some place) = in_refuses address place (slice_get zones place)
+at_refuses zones address (Some index) = in_refuses address index (slice_get zones index)
 
 admission_refuses : (zones : List ZoneState) (a : Asked) → IsRefusing (admission zones a)
 admission_refuses zones a =
@@ -58,16 +58,16 @@ admission_refuses zones a =
     (λ _. λ e. absurd (omega (arith, e)))
     (λ _. at_refuses zones a.address (zone_position a.zone.name zones)))
 
-judged_refuses : (m : Machine) (a : Asked) (place : ℕ) (z : ZoneState) (v : Verdict) → AreRefusals (judged_in m a place z v).1
-judged_refuses m a place z (Refuses rcode) = tt
-judged_refuses m a place z Keeps = tt
-judged_refuses m a place z (Leaves records) =
-    tested (λ (p : Machine × List Sent). AreRefusals p.1) (has_room (kept_of z) records) (stages m a place z records, []) (waits m a place rcode_servfail (newest_serial z) (updates_of z), [])
+judged_refuses : (m : Machine) (a : Asked) (index : ℕ) (z : ZoneState) (v : Verdict) → AreRefusals (judged_in m a index z v).1
+judged_refuses m a index z (Refuses rcode) = tt
+judged_refuses m a index z Keeps = tt
+judged_refuses m a index z (Leaves records) =
+    tested (λ (p : Machine × List Sent). AreRefusals p.1) (has_room (kept_of z) records) (stages m a index z records, []) (waits m a index rcode_servfail (newest_serial z) (updates_of z), [])
     (λ _. tt) (λ _. tt)
 
 admitted_refuses : (m : Machine) (a : Asked) (d : Admission) → IsRefusing d → AreRefusals (admitted m a d).1
 admitted_refuses m a (Rejects rcode) other = ((a.message.header, rcode, other, refl), tt)
-admitted_refuses m a (Admits place z) other = judged_refuses m a place z (verdict (newest_zone (kept_of z)) a.message.answers a.message.authorities)
+admitted_refuses m a (Admits index z) other = judged_refuses m a index z (verdict (newest_zone (kept_of z)) a.message.answers a.message.authorities)
 
 begun_refuses : (fails : List Bool) (m : Machine) (lacked : Option (ℕ × ℕ)) (first : Effects) (mid : Machine) → IsUpdateBegun fails m lacked first mid → AreRefusals first.sent
 begun_refuses fails m None first mid g =
@@ -98,7 +98,7 @@ event_refuses fails old (Datagram peer octets) effects new g e = served_refuses 
 event_refuses fails old (Connect peer) effects new g e = absurd (cc e)
 event_refuses fails old (Arrives number octets) effects new g e = arrived_refuses fails old number (peer_at number old.connections) octets effects new g e
 event_refuses fails old Flush effects new g e = absurd (cc e)
-event_refuses fails old (Checkpoint place) effects new g e = absurd (cc e)
+event_refuses fails old (Checkpoint index) effects new g e = absurd (cc e)
 event_refuses fails old (Pump number) effects new g e = absurd (cc e)
 event_refuses fails old (Closed number) effects new g e = absurd (cc e)
 
@@ -117,7 +117,7 @@ failures_refuse m (Datagram peer octets) = failure_refuses (to.Address peer) oct
 failures_refuse m (Arrives number octets) = failure_on_refuses number (peer_at number m.connections) octets
 failures_refuse m (Connect peer) = tt
 failures_refuse m Flush = tt
-failures_refuse m (Checkpoint place) = tt
+failures_refuse m (Checkpoint index) = tt
 failures_refuse m (Pump number) = tt
 failures_refuse m (Closed number) = tt
 

@@ -94,12 +94,12 @@ record HasRoom (m : Machine) : Type 0 where
   fit : AllFit m
   room : length m.waiting < 32
 
-checkpoint_fits : (place room : ℕ) (old : Machine) (fails : List Bool) (moving : Bool) (new : Machine) → IsCheckpoint place room old fails moving new → AllFit old → HasRoom new
-checkpoint_fits place room old fails moving new made h =
+checkpoint_fits : (index room : ℕ) (old : Machine) (fails : List Bool) (moving : Bool) (new : Machine) → IsCheckpoint index room old fails moving new → AllFit old → HasRoom new
+checkpoint_fits index room old fails moving new made h =
     let here = flushed fails old in
     let fit = flush_fits fails old made.all h in
-    let one = moved_fits 0 moving room made.zone made.next made.moved (all_found (Fits 0) here.zones place made.zone fit.each made.stands) in
-    subst HasRoom (sym made.is) (record { fit = record { few = omega arith; each = all_set (Fits 0) here.zones place made.next fit.each one; opened = tt }; room = omega arith })
+    let one = moved_fits 0 moving room made.zone made.next made.moved (all_found (Fits 0) here.zones index made.zone fit.each made.stands) in
+    subst HasRoom (sym made.is) (record { fit = record { few = omega arith; each = all_set (Fits 0) here.zones index made.next fit.each one; opened = tt }; room = omega arith })
 
 not_full : (b : Bool) → not b ≡ false → b ≡ true
 not_full true e = refl
@@ -119,9 +119,9 @@ begun_fits fails old (Some lacked) first mid b h = checkpoint_fits lacked.0 lack
 one_more : {X : Type 0} (xs : List X) (x : X) → length (xs ++ x ∷ []) ≡ suc (length xs)
 one_more xs x = length-append xs (x ∷ []) ∙ omega arith
 
-wait_fits : (m : Machine) (a : Asked) (place rcode serial : ℕ) (updates : List Made) → is_closed_in (slice_get m.zones place) ≡ false → HasRoom m → AllFit (waits m a place rcode serial updates)
-wait_fits m a place rcode serial updates opened h =
-    let one : Waits = record { to = a.to; address = a.address; header = a.message.header; rcode = rcode; zone = place; serial = serial; updates = updates } in
+wait_fits : (m : Machine) (a : Asked) (index rcode serial : ℕ) (updates : List Made) → is_closed_in (slice_get m.zones index) ≡ false → HasRoom m → AllFit (waits m a index rcode serial updates)
+wait_fits m a index rcode serial updates opened h =
+    let one : Waits = record { to = a.to; address = a.address; header = a.message.header; rcode = rcode; zone = index; serial = serial; updates = updates } in
     let len = one_more m.waiting one in
     let room = h.room in
     record {
@@ -131,13 +131,13 @@ wait_fits m a place rcode serial updates opened h =
     }
 
 -- a zone that is changed, and not closed, is as open as before
-set_open : (zones : List ZoneState) (place number : ℕ) (z w : ZoneState) → slice_get zones place ≡ Some z → w.closed ≡ z.closed
-    → is_closed_in (slice_get (slice_set zones place w) number) ≡ is_closed_in (slice_get zones number)
-set_open [] place number z w stands same = absurd (cc stands)
+set_open : (zones : List ZoneState) (index number : ℕ) (z w : ZoneState) → slice_get zones index ≡ Some z → w.closed ≡ z.closed
+    → is_closed_in (slice_get (slice_set zones index w) number) ≡ is_closed_in (slice_get zones number)
+set_open [] index number z w stands same = absurd (cc stands)
 set_open (x ∷ zones) zero zero z w stands same = same ∙ ap is_closed_in (sym stands)
 set_open (x ∷ zones) zero (suc number) z w stands same = refl
-set_open (x ∷ zones) (suc place) zero z w stands same = refl
-set_open (x ∷ zones) (suc place) (suc number) z w stands same = set_open zones place number z w stands same
+set_open (x ∷ zones) (suc index) zero z w stands same = refl
+set_open (x ∷ zones) (suc index) (suc number) z w stands same = set_open zones index number z w stands same
 
 still_open : (old new : List ZoneState) → ((number : ℕ) → is_closed_in (slice_get new number) ≡ is_closed_in (slice_get old number)) → (ws : List Waits)
     → AllByRecursion (IsForOpen old) ws → AllByRecursion (IsForOpen new) ws
@@ -150,52 +150,52 @@ staged_fits n made z room opened h =
     ⊎_elim (λ shut. (let clash : true ≡ false = sym shut ∙ opened in absurd (cc clash)))
     (λ at_most. record { few = omega (arith, len, at_most, room); wait = inr (omega (arith, len, at_most)) }) h.wait
 
-stage_fits : (m : Machine) (a : Asked) (place : ℕ) (z : ZoneState) (records : List Record) → slice_get m.zones place ≡ Some z → z.closed ≡ false → HasRoom m → AllFit (stages m a place z records)
-stage_fits m a place z records stands opened h =
+stage_fits : (m : Machine) (a : Asked) (index : ℕ) (z : ZoneState) (records : List Record) → slice_get m.zones index ≡ Some z → z.closed ≡ false → HasRoom m → AllFit (stages m a index z records)
+stage_fits m a index z records stands opened h =
     let made : Made = record { update = a.message; records = records } in
     let n = length m.waiting in
-    let zones_after = slice_set m.zones place (with_staged made z) in
-    let staged = staged_fits n made z h.room opened (all_found (Fits n) m.zones place z (h.fit).each stands) in
-    let each = all_set (Fits (suc n)) m.zones place (with_staged made z) (all_more n (suc n) m.zones (omega arith) (h.fit).each) staged in
-    let one : Waits = record { to = a.to; address = a.address; header = a.message.header; rcode = 0; zone = place; serial = newest_serial (with_staged made z); updates = updates_of (with_staged made z) } in
+    let zones_after = slice_set m.zones index (with_staged made z) in
+    let staged = staged_fits n made z h.room opened (all_found (Fits n) m.zones index z (h.fit).each stands) in
+    let each = all_set (Fits (suc n)) m.zones index (with_staged made z) (all_more n (suc n) m.zones (omega arith) (h.fit).each) staged in
+    let one : Waits = record { to = a.to; address = a.address; header = a.message.header; rcode = 0; zone = index; serial = newest_serial (with_staged made z); updates = updates_of (with_staged made z) } in
     let len = one_more m.waiting one in
     let room = h.room in
-    let same : (number : ℕ) → is_closed_in (slice_get zones_after number) ≡ is_closed_in (slice_get m.zones number) = λ number. set_open m.zones place number z (with_staged made z) stands refl in
+    let same : (number : ℕ) → is_closed_in (slice_get zones_after number) ≡ is_closed_in (slice_get m.zones number) = λ number. set_open m.zones index number z (with_staged made z) stands refl in
     record {
       few = omega (arith, len, room);
       each = all_more (suc n) _ zones_after (omega (arith, len)) each;
-      opened = all_with (IsForOpen zones_after) m.waiting (one ∷ []) (still_open m.zones zones_after same m.waiting (h.fit).opened) (same place ∙ ap is_closed_in stands ∙ opened, tt);
+      opened = all_with (IsForOpen zones_after) m.waiting (one ∷ []) (still_open m.zones zones_after same m.waiting (h.fit).opened) (same index ∙ ap is_closed_in stands ∙ opened, tt);
     }
 
 abbrev AnswerFits : Machine × List Sent → Type 0
 AnswerFits p = AllFit p.0
 
-accepted_fits : (m : Machine) (a : Asked) (place : ℕ) (z : ZoneState) (records : List Record) → slice_get m.zones place ≡ Some z → z.closed ≡ false → HasRoom m → AnswerFits (accepted_in m a place z records)
-accepted_fits m a place z records stands opened h =
-    tested AnswerFits (has_room (kept_of z) records) (stages m a place z records, []) (waits m a place rcode_servfail (newest_serial z) (updates_of z), [])
-    (λ _. stage_fits m a place z records stands opened h)
-    (λ _. wait_fits m a place rcode_servfail (newest_serial z) (updates_of z) (ap is_closed_in stands ∙ opened) h)
+accepted_fits : (m : Machine) (a : Asked) (index : ℕ) (z : ZoneState) (records : List Record) → slice_get m.zones index ≡ Some z → z.closed ≡ false → HasRoom m → AnswerFits (accepted_in m a index z records)
+accepted_fits m a index z records stands opened h =
+    tested AnswerFits (has_room (kept_of z) records) (stages m a index z records, []) (waits m a index rcode_servfail (newest_serial z) (updates_of z), [])
+    (λ _. stage_fits m a index z records stands opened h)
+    (λ _. wait_fits m a index rcode_servfail (newest_serial z) (updates_of z) (ap is_closed_in stands ∙ opened) h)
 
-judged_fits : (m : Machine) (a : Asked) (place : ℕ) (z : ZoneState) (v : Verdict) → slice_get m.zones place ≡ Some z → z.closed ≡ false → HasRoom m → AnswerFits (judged_in m a place z v)
-judged_fits m a place z (Refuses rcode) stands opened h = wait_fits m a place (number_of_rcode rcode) (newest_serial z) (updates_of z) (ap is_closed_in stands ∙ opened) h
-judged_fits m a place z Keeps stands opened h = wait_fits m a place 0 (newest_serial z) (updates_of z) (ap is_closed_in stands ∙ opened) h
-judged_fits m a place z (Leaves records) stands opened h = accepted_fits m a place z records stands opened h
+judged_fits : (m : Machine) (a : Asked) (index : ℕ) (z : ZoneState) (v : Verdict) → slice_get m.zones index ≡ Some z → z.closed ≡ false → HasRoom m → AnswerFits (judged_in m a index z v)
+judged_fits m a index z (Refuses rcode) stands opened h = wait_fits m a index (number_of_rcode rcode) (newest_serial z) (updates_of z) (ap is_closed_in stands ∙ opened) h
+judged_fits m a index z Keeps stands opened h = wait_fits m a index 0 (newest_serial z) (updates_of z) (ap is_closed_in stands ∙ opened) h
+judged_fits m a index z (Leaves records) stands opened h = accepted_fits m a index z records stands opened h
 
 -- a zone that is admitted is open
 abbrev IsOpenIn : Admission → Type 0
 IsOpenIn (Rejects rcode) = Unit {0}
-IsOpenIn (Admits place z) = z.closed ≡ false
+IsOpenIn (Admits index z) = z.closed ≡ false
 
-in_open : (a : Asked) (place : ℕ) (found : Option ZoneState) → IsOpenIn (admission_in a.address place found)
-in_open a place None = tt
-in_open a place (Some z) =
-    tested IsOpenIn (not (z.setting.may_update a.address)) (Rejects rcode_refused) (if z.closed then Rejects rcode_servfail else Admits place z)
+in_open : (a : Asked) (index : ℕ) (found : Option ZoneState) → IsOpenIn (admission_in a.address index found)
+in_open a index None = tt
+in_open a index (Some z) =
+    tested IsOpenIn (not (z.setting.may_update a.address)) (Rejects rcode_refused) (if z.closed then Rejects rcode_servfail else Admits index z)
     (λ _. tt)
-    (λ _. tested IsOpenIn z.closed (Rejects rcode_servfail) (Admits place z) (λ _. tt) (λ e. e))
+    (λ _. tested IsOpenIn z.closed (Rejects rcode_servfail) (Admits index z) (λ _. tt) (λ e. e))
 
-at_open : (zones : List ZoneState) (a : Asked) (place : Option ℕ) → IsOpenIn (admission_at zones a.address place)
+at_open : (zones : List ZoneState) (a : Asked) (index : Option ℕ) → IsOpenIn (admission_at zones a.address index)
 at_open zones a None = tt
-at_open zones a (Some place) = in_open a place (slice_get zones place)
+at_open zones a (Some index) = in_open a index (slice_get zones index)
 
 admission_open : (zones : List ZoneState) (a : Asked) → IsOpenIn (admission zones a)
 admission_open zones a =
@@ -208,8 +208,8 @@ admission_open zones a =
 
 admitted_fits : (m : Machine) (a : Asked) (d : Admission) → StandsIn m.zones d → IsOpenIn d → HasRoom m → AnswerFits (admitted m a d)
 admitted_fits m a (Rejects rcode) stands opened h = h.fit
-admitted_fits m a (Admits place z) stands opened h =
-    judged_fits m a place z (verdict (newest_zone (kept_of z)) a.message.answers a.message.authorities) stands opened h
+admitted_fits m a (Admits index z) stands opened h =
+    judged_fits m a index z (verdict (newest_zone (kept_of z)) a.message.answers a.message.authorities) stands opened h
 
 answer_fits : (m : Machine) (a : Asked) → HasRoom m → AllFit (answer m a).0
 answer_fits m a h = admitted_fits m a (admission m.zones a) (admission_stands m.zones a) (admission_open m.zones a) h
@@ -251,9 +251,9 @@ arrived_fits : (fails : List Bool) (old : Machine) (number : ℕ) (peer : Option
 arrived_fits fails old number None octets effects new g h = subst AllFit (sym (g.1).state) h
 arrived_fits fails old number (Some peer) octets effects new g h = served_fits fails old (to.Connection number) peer _ effects new g h
 
-checkpointed_fits : (fails : List Bool) (old : Machine) (place : ℕ) (o : Option ZoneState) (effects : Effects) (new : Machine) → IsCheckpointed fails old place o effects new → AllFit old → AllFit new
-checkpointed_fits fails old place None effects new g h = subst AllFit (sym (g.1).state) h
-checkpointed_fits fails old place (Some z) effects new g h = (checkpoint_fits place 0 old g.0 g.1 new g.3 h).fit
+checkpointed_fits : (fails : List Bool) (old : Machine) (index : ℕ) (o : Option ZoneState) (effects : Effects) (new : Machine) → IsCheckpointed fails old index o effects new → AllFit old → AllFit new
+checkpointed_fits fails old index None effects new g h = subst AllFit (sym (g.1).state) h
+checkpointed_fits fails old index (Some z) effects new g h = (checkpoint_fits index 0 old g.0 g.1 new g.3 h).fit
 
 event_fits : (fails : List Bool) (old : Machine) (event : Event) (effects : Effects) (new : Machine) → Goes fails old event effects new → AllFit old → AllFit new
 event_fits fails old (Datagram peer octets) effects new g h = served_fits fails old (to.Address peer) peer _ effects new g h
@@ -263,7 +263,7 @@ event_fits fails old (Connect peer) effects new g h = elim (g.1) [
 ]
 event_fits fails old (Arrives number octets) effects new g h = arrived_fits fails old number (peer_at number old.connections) octets effects new g h
 event_fits fails old Flush effects new g h = subst AllFit (sym (g.1).state) (flush_fits fails old g.0 h)
-event_fits fails old (Checkpoint place) effects new g h = checkpointed_fits fails old place (slice_get old.zones place) effects new g h
+event_fits fails old (Checkpoint index) effects new g h = checkpointed_fits fails old index (slice_get old.zones index) effects new g h
 event_fits fails old (Pump number) effects new g h = quiet_fits old new effects.sent (pumped_quiet old number (sending_at number old.connections) effects.sent new g.1) h
 event_fits fails old (Closed number) effects new g h = subst AllFit (sym (g.1).state) (close_fits number old h)
 
@@ -281,11 +281,11 @@ step_fits fails old event effects new (inl g) h = event_fits fails old event eff
 step_fits fails old event effects new (inr l) h = lacks_fits fails old event effects new l h
 
 -- a stop
-all_recovered : (least most : ℕ) (m : Machine) (event : Event) (place : ℕ) (old new : List ZoneState) → AreRecovered least most m event place old new → AllByRecursion (Fits 0) new
-all_recovered least most m event place [] [] r = tt
-all_recovered least most m event place [] (w ∷ new) r = absurd r
-all_recovered least most m event place (z ∷ old) [] r = absurd r
-all_recovered least most m event place (z ∷ old) (w ∷ new) r = (none_fit 0 w (r.0).staged, all_recovered least most m event (suc place) old new r.1)
+all_recovered : (least most : ℕ) (m : Machine) (event : Event) (index : ℕ) (old new : List ZoneState) → AreRecovered least most m event index old new → AllByRecursion (Fits 0) new
+all_recovered least most m event index [] [] r = tt
+all_recovered least most m event index [] (w ∷ new) r = absurd r
+all_recovered least most m event index (z ∷ old) [] r = absurd r
+all_recovered least most m event index (z ∷ old) (w ∷ new) r = (none_fit 0 w (r.0).staged, all_recovered least most m event (suc index) old new r.1)
 
 nothing_fits : (m : Machine) → m.waiting ≡ [] → AllByRecursion (Fits 0) m.zones → AllFit m
 nothing_fits m none each = record {

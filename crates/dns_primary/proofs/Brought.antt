@@ -40,12 +40,12 @@ flushed_same [] zones = pair_same Same same_itself zones
 flushed_same (f ∷ fails) [] = tt
 flushed_same (f ∷ fails) (z ∷ zones) = ((zone_flushed f z).same, flushed_same fails zones)
 
-checkpoint_same : (place room : ℕ) (old : Machine) (fails : List Bool) (moving : Bool) (new : Machine) → IsCheckpoint place room old fails moving new → Each2 Same old.zones new.zones
-checkpoint_same place room old fails moving new made =
+checkpoint_same : (index room : ℕ) (old : Machine) (fails : List Bool) (moving : Bool) (new : Machine) → IsCheckpoint index room old fails moving new → Each2 Same old.zones new.zones
+checkpoint_same index room old fails moving new made =
     let zones = (flushed fails old).zones in
     subst (λ (m : Machine). Each2 Same old.zones m.zones) (sym made.is)
-    (pair_on Same same_on old.zones zones (slice_set zones place made.next) (flushed_same fails old.zones)
-    (pair_set Same same_itself zones place made.zone made.next made.stands
+    (pair_on Same same_on old.zones zones (slice_set zones index made.next) (flushed_same fails old.zones)
+    (pair_set Same same_itself zones index made.zone made.next made.stands
     (same_updates made.zone made.next (same_moved moving room made.zone made.next made.moved))))
 
 begun_same : (fails : List Bool) (old : Machine) (lacked : Option (ℕ × ℕ)) (effects : Effects) (mid : Machine) → IsUpdateBegun fails old lacked effects mid → Each2 Same old.zones mid.zones
@@ -95,14 +95,14 @@ all_with Q (a ∷ old) (b ∷ mid) [] p q = absurd q
 all_with Q (a ∷ old) (b ∷ mid) (c ∷ new) p q = (same_with Q a b c p.0 q.0, all_with Q old mid new p.1 q.1)
 
 -- a zone that is admitted is named, and may be updated from there
-record IsAllowed (zones : List ZoneState) (a : Asked) (place : ℕ) (z : ZoneState) : Type 0 where
-  stands : slice_get zones place ≡ Some z
+record IsAllowed (zones : List ZoneState) (a : Asked) (index : ℕ) (z : ZoneState) : Type 0 where
+  stands : slice_get zones index ≡ Some z
   named : names_eq z.setting.shape.apex a.zone.name ≡ true
   allowed : z.setting.may_update a.address ≡ true
 
 abbrev AllowedIn : List ZoneState → Asked → Admission → Type 0
 AllowedIn zones a (Rejects rcode) = Unit {0}
-AllowedIn zones a (Admits place z) = IsAllowed zones a place z
+AllowedIn zones a (Admits index z) = IsAllowed zones a index z
 
 abbrev pub IsNamed : Labels → Option ZoneState → Type 0
 IsNamed apex None = Unit {0}
@@ -110,11 +110,11 @@ IsNamed apex (Some z) = names_eq z.setting.shape.apex apex ≡ true
 
 abbrev pub NamedAt : Labels → List ZoneState → Option ℕ → Type 0
 NamedAt apex zones None = Unit {0}
-NamedAt apex zones (Some place) = IsNamed apex (slice_get zones place)
+NamedAt apex zones (Some index) = IsNamed apex (slice_get zones index)
 
 named_later : (apex : Labels) (z : ZoneState) (zones : List ZoneState) (o : Option ℕ) → NamedAt apex zones o → NamedAt apex (z ∷ zones) (option_map suc o)
 named_later apex z zones None h = tt
-named_later apex z zones (Some place) h = h
+named_later apex z zones (Some index) h = h
 
 pub place_named : (apex : Labels) (zones : List ZoneState) → NamedAt apex zones (zone_position apex zones)
 place_named apex [] = tt
@@ -123,16 +123,16 @@ place_named apex (z ∷ rest) =
     (λ e. e)
     (λ _. named_later apex z rest (zone_position apex rest) (place_named apex rest))
 
-in_allowed : (zones : List ZoneState) (a : Asked) (place : ℕ) (found : Option ZoneState) → slice_get zones place ≡ found → IsNamed a.zone.name found → AllowedIn zones a (admission_in a.address place found)
-in_allowed zones a place None e n = tt
-in_allowed zones a place (Some z) e n =
-    tested (AllowedIn zones a) (not (z.setting.may_update a.address)) (Rejects rcode_refused) (if z.closed then Rejects rcode_servfail else Admits place z)
+in_allowed : (zones : List ZoneState) (a : Asked) (index : ℕ) (found : Option ZoneState) → slice_get zones index ≡ found → IsNamed a.zone.name found → AllowedIn zones a (admission_in a.address index found)
+in_allowed zones a index None e n = tt
+in_allowed zones a index (Some z) e n =
+    tested (AllowedIn zones a) (not (z.setting.may_update a.address)) (Rejects rcode_refused) (if z.closed then Rejects rcode_servfail else Admits index z)
     (λ _. tt)
-    (λ may. tested (AllowedIn zones a) z.closed (Rejects rcode_servfail) (Admits place z) (λ _. tt) (λ _. record { stands = e; named = n; allowed = has (z.setting.may_update a.address) may }))
+    (λ may. tested (AllowedIn zones a) z.closed (Rejects rcode_servfail) (Admits index z) (λ _. tt) (λ _. record { stands = e; named = n; allowed = has (z.setting.may_update a.address) may }))
 
 at_allowed : (zones : List ZoneState) (a : Asked) (o : Option ℕ) → NamedAt a.zone.name zones o → AllowedIn zones a (admission_at zones a.address o)
 at_allowed zones a None n = tt
-at_allowed zones a (Some place) n = in_allowed zones a place (slice_get zones place) refl n
+at_allowed zones a (Some index) n = in_allowed zones a index (slice_get zones index) refl n
 
 admission_allowed : (zones : List ZoneState) (a : Asked) → AllowedIn zones a (admission zones a)
 admission_allowed zones a =
@@ -153,15 +153,15 @@ record IsBrought (old : Machine) (event : Event) (a : Asked) : Type 0 where
   from : a.address ≡ peer.address
 
 module _ (old : Machine) (event : Event) (a : Asked) (b : IsBrought old event a) where
-  brings : (place : ℕ) (y z : ZoneState) → slice_get old.zones place ≡ Some y → z.setting ≡ y.setting → names_eq z.setting.shape.apex a.zone.name ≡ true → z.setting.may_update a.address ≡ true → Brings old event z a.message
-  brings place y z there same named allowed = record {
+  brings : (index : ℕ) (y z : ZoneState) → slice_get old.zones index ≡ Some y → z.setting ≡ y.setting → names_eq z.setting.shape.apex a.zone.name ≡ true → z.setting.may_update a.address ≡ true → Brings old event z a.message
+  brings index y z there same named allowed = record {
     peer = b.peer;
     transport = b.transport;
     octets = b.octets;
     came = b.came;
     question = a.zone;
     asks = b.asks;
-    place = place;
+    index = index;
     zone = y;
     there = there;
     shape = ap (λ (s : Setting). s.shape) (sym same);
@@ -175,24 +175,24 @@ module _ (old : Machine) (event : Event) (a : Asked) (b : IsBrought old event a)
   still : (m : Machine) → AreWith (Brings old event) m.zones m.zones
   still m = all_still (Brings old event) m.zones
 
-  accepted_brings : (m : Machine) → Each2 Same old.zones m.zones → (place : ℕ) (z : ZoneState) (records : List Record) → IsAllowed m.zones a place z → Goes_to m (accepted_in m a place z records)
-  accepted_brings m same place z records h =
-      tested (Goes_to m) (has_room (kept_of z) records) (stages m a place z records, []) (waits m a place rcode_servfail (newest_serial z) (updates_of z), [])
+  accepted_brings : (m : Machine) → Each2 Same old.zones m.zones → (index : ℕ) (z : ZoneState) (records : List Record) → IsAllowed m.zones a index z → Goes_to m (accepted_in m a index z records)
+  accepted_brings m same index z records h =
+      tested (Goes_to m) (has_room (kept_of z) records) (stages m a index z records, []) (waits m a index rcode_servfail (newest_serial z) (updates_of z), [])
       (λ _.
       (let made : Made = record { update = a.message; records = records } in
-      let before = pair_found_before Same old.zones m.zones place z same h.stands in
-      pair_set (IsWith (Brings old event)) (with_itself (Brings old event)) m.zones place z (with_staged made z) h.stands
-      (record { setting = refl; updates = inr (made, sym (append_assoc z.shown z.staged (made ∷ [])), brings place before.zone (with_staged made z) before.there before.holds.setting h.named h.allowed); openings = refl })))
+      let before = pair_found_before Same old.zones m.zones index z same h.stands in
+      pair_set (IsWith (Brings old event)) (with_itself (Brings old event)) m.zones index z (with_staged made z) h.stands
+      (record { setting = refl; updates = inr (made, sym (append_assoc z.shown z.staged (made ∷ [])), brings index before.zone (with_staged made z) before.there before.holds.setting h.named h.allowed); openings = refl })))
       (λ _. still m)
 
-  judged_brings : (m : Machine) → Each2 Same old.zones m.zones → (place : ℕ) (z : ZoneState) (v : Verdict) → IsAllowed m.zones a place z → Goes_to m (judged_in m a place z v)
-  judged_brings m same place z (Refuses rcode) h = still m
-  judged_brings m same place z Keeps h = still m
-  judged_brings m same place z (Leaves records) h = accepted_brings m same place z records h
+  judged_brings : (m : Machine) → Each2 Same old.zones m.zones → (index : ℕ) (z : ZoneState) (v : Verdict) → IsAllowed m.zones a index z → Goes_to m (judged_in m a index z v)
+  judged_brings m same index z (Refuses rcode) h = still m
+  judged_brings m same index z Keeps h = still m
+  judged_brings m same index z (Leaves records) h = accepted_brings m same index z records h
 
   admitted_brings : (m : Machine) → Each2 Same old.zones m.zones → (d : Admission) → AllowedIn m.zones a d → Goes_to m (admitted m a d)
   admitted_brings m same (Rejects rcode) h = still m
-  admitted_brings m same (Admits place z) h = judged_brings m same place z (verdict (newest_zone (kept_of z)) a.message.answers a.message.authorities) h
+  admitted_brings m same (Admits index z) h = judged_brings m same index z (verdict (newest_zone (kept_of z)) a.message.answers a.message.authorities) h
 
   updated_brings : (fails : List Bool) (effects : Effects) (new : Machine) → IsUpdated fails old a effects new → AreWith (Brings old event) old.zones new.zones
   updated_brings fails effects new u =
@@ -227,16 +227,16 @@ connected_same : (old : Machine) (peer : Peer) (effects : Effects) (new : Machin
 connected_same old peer effects new (inl h) = ap (λ (m : Machine). m.zones) h.state
 connected_same old peer effects new (inr h) = ap (λ (m : Machine). m.zones) (h.1).state
 
-checkpointed_same : (fails : List Bool) (old : Machine) (place : ℕ) (o : Option ZoneState) (effects : Effects) (new : Machine) → IsCheckpointed fails old place o effects new → Each2 Same old.zones new.zones
-checkpointed_same fails old place None effects new g = subst (λ (m : Machine). Each2 Same old.zones m.zones) (sym (g.1).state) (pair_same Same same_itself old.zones)
-checkpointed_same fails old place (Some z) effects new g = begun_same fails old (Some (place, 0)) effects new g
+checkpointed_same : (fails : List Bool) (old : Machine) (index : ℕ) (o : Option ZoneState) (effects : Effects) (new : Machine) → IsCheckpointed fails old index o effects new → Each2 Same old.zones new.zones
+checkpointed_same fails old index None effects new g = subst (λ (m : Machine). Each2 Same old.zones m.zones) (sym (g.1).state) (pair_same Same same_itself old.zones)
+checkpointed_same fails old index (Some z) effects new g = begun_same fails old (Some (index, 0)) effects new g
 
 goes_brings : (fails : List Bool) (old : Machine) (event : Event) (effects : Effects) (new : Machine) → Goes fails old event effects new → AreWith (Brings old event) old.zones new.zones
 goes_brings fails old (Datagram peer octets) effects new g = served_brings old (Datagram peer octets) fails (to.Address peer) peer Udp octets _ effects new (refl, refl, refl) refl g
 goes_brings fails old (Connect peer) effects new g = same_zones old (Connect peer) new (connected_same old peer effects new g.1)
 goes_brings fails old (Arrives number octets) effects new g = arrived_brings fails old number (peer_at number old.connections) octets effects new refl g
 goes_brings fails old Flush effects new g = nothing_new old Flush new (flushed fails old) (g.1).state (flushed_same fails old.zones)
-goes_brings fails old (Checkpoint place) effects new g = all_same (Brings old (Checkpoint place)) old.zones new.zones (checkpointed_same fails old place (slice_get old.zones place) effects new g)
+goes_brings fails old (Checkpoint index) effects new g = all_same (Brings old (Checkpoint index)) old.zones new.zones (checkpointed_same fails old index (slice_get old.zones index) effects new g)
 goes_brings fails old (Pump number) effects new g = same_zones old (Pump number) new (pumped_quiet old number (sending_at number old.connections) effects.sent new g.1).zones
 goes_brings fails old (Closed number) effects new g = same_zones old (Closed number) new (ap (λ (m : Machine). m.zones) (g.1).state)
 
@@ -305,13 +305,13 @@ recovered_is least most making m event tries new z y few r = record {
       inl (same_has ((z.shown ++ r.kept) ++ r.lost) (updates_of z) u whole (has_front (z.shown ++ r.kept) r.lost u (same_has (updates_of y) (z.shown ++ r.kept) u now h))));
 }
 
-all_recovered_are : (least most : ℕ) (m : Machine) (event : Event) (tries : ℕ) (stopped : Machine) (place : ℕ) (old new : List ZoneState) → most ≤ suc tries → AreRecovered least most m event place old new
+all_recovered_are : (least most : ℕ) (m : Machine) (event : Event) (tries : ℕ) (stopped : Machine) (index : ℕ) (old new : List ZoneState) → most ≤ suc tries → AreRecovered least most m event index old new
     → Each2 (IsOf m (Stopped event tries stopped)) old new
-all_recovered_are least most m event tries stopped place [] [] few h = tt
-all_recovered_are least most m event tries stopped place [] (y ∷ new) few h = absurd h
-all_recovered_are least most m event tries stopped place (z ∷ old) [] few h = absurd h
-all_recovered_are least most m event tries stopped place (z ∷ old) (y ∷ new) few h =
-    (recovered_is least most (IsMaking m event place z) m event tries stopped z y few h.0, all_recovered_are least most m event tries stopped (suc place) old new few h.1)
+all_recovered_are least most m event tries stopped index [] [] few h = tt
+all_recovered_are least most m event tries stopped index [] (y ∷ new) few h = absurd h
+all_recovered_are least most m event tries stopped index (z ∷ old) [] few h = absurd h
+all_recovered_are least most m event tries stopped index (z ∷ old) (y ∷ new) few h =
+    (recovered_is least most (IsMaking m event index z) m event tries stopped z y few h.0, all_recovered_are least most m event tries stopped (suc index) old new few h.1)
 
 anew_is : (m new : Machine) (z y : ZoneState) → IsSetAnew z y → IsOf m (Configured new) z y
 anew_is m new z y s = record {
@@ -339,7 +339,7 @@ brings_as m (Took event fails effects new) y w x e b = record {
   came = b.came;
   question = b.question;
   asks = b.asks;
-  place = b.place;
+  index = b.index;
   zone = b.zone;
   there = b.there;
   shape = b.shape ∙ sym e;
@@ -430,11 +430,11 @@ StaysSet z w = w.setting ≡ z.setting
 pub step_set : (fails : List Bool) (old : Machine) (event : Event) (effects : Effects) (new : Machine) → Step fails old event effects new → Each2 StaysSet old.zones new.zones
 step_set fails old event effects new h = pair_map (IsWith (Brings old event)) StaysSet (λ z w x. x.setting) old.zones new.zones (step_brings fails old event effects new h)
 
-all_recovered_set : (least most : ℕ) (m : Machine) (event : Event) (place : ℕ) (old new : List ZoneState) → AreRecovered least most m event place old new → Each2 StaysSet old new
-all_recovered_set least most m event place [] [] h = tt
-all_recovered_set least most m event place [] (y ∷ new) h = absurd h
-all_recovered_set least most m event place (z ∷ old) [] h = absurd h
-all_recovered_set least most m event place (z ∷ old) (y ∷ new) h = (h.0.setting, all_recovered_set least most m event (suc place) old new h.1)
+all_recovered_set : (least most : ℕ) (m : Machine) (event : Event) (index : ℕ) (old new : List ZoneState) → AreRecovered least most m event index old new → Each2 StaysSet old new
+all_recovered_set least most m event index [] [] h = tt
+all_recovered_set least most m event index [] (y ∷ new) h = absurd h
+all_recovered_set least most m event index (z ∷ old) [] h = absurd h
+all_recovered_set least most m event index (z ∷ old) (y ∷ new) h = (h.0.setting, all_recovered_set least most m event (suc index) old new h.1)
 
 pub stopped_set : (tries : ℕ) (old : Machine) (event : Event) (new : Machine) → IsStopped tries old event new → Each2 StaysSet old.zones new.zones
 stopped_set tries old event new h = all_recovered_set 1 (suc tries) old event 0 old.zones new.zones h.zones

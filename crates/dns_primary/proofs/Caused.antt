@@ -62,20 +62,20 @@ record Ended (Cause : Type 0) (old : Machine) (ended : Machine × List Sent) : T
 -- where an update is refused before it is judged
 abbrev IsRefusal : Machine → Asked → Admission → Type 0
 IsRefusal m a (Rejects rcode) = rcode % 16 ≡ 2 → IsForClosed m a
-IsRefusal m a (Admits place z) = Unit {0}
+IsRefusal m a (Admits index z) = Unit {0}
 
 none_there : (m : Machine) (a : Asked) (rcode : ℕ) → (rcode % 16 ≡ 2 → ⊥) → IsRefusal m a (Rejects rcode)
 none_there m a rcode other e = absurd (other e)
 
-refused_in : (m : Machine) (a : Asked) (place : ℕ) (o : Option ZoneState) → zone_position a.zone.name m.zones ≡ Some place → slice_get m.zones place ≡ o → IsRefusal m a (admission_in a.address place o)
-refused_in m a place None named e = none_there m a rcode_notauth (λ f. omega (arith, f))
-refused_in m a place (Some z) named e =
+refused_in : (m : Machine) (a : Asked) (index : ℕ) (o : Option ZoneState) → zone_position a.zone.name m.zones ≡ Some index → slice_get m.zones index ≡ o → IsRefusal m a (admission_in a.address index o)
+refused_in m a index None named e = none_there m a rcode_notauth (λ f. omega (arith, f))
+refused_in m a index (Some z) named e =
     either (IsRefusal m a) (not (z.setting.may_update a.address)) _ _ (none_there m a rcode_refused (λ f. omega (arith, f)))
-    (tested (IsRefusal m a) z.closed (Rejects rcode_servfail) (Admits place z) (λ c f. record { place = place; zone = z; named = named; stands = e; closed = c }) (λ c. tt))
+    (tested (IsRefusal m a) z.closed (Rejects rcode_servfail) (Admits index z) (λ c f. record { index = index; zone = z; named = named; stands = e; closed = c }) (λ c. tt))
 
 refused_at : (m : Machine) (a : Asked) (o : Option ℕ) → zone_position a.zone.name m.zones ≡ o → IsRefusal m a (admission_at m.zones a.address o)
 refused_at m a None named = none_there m a rcode_notauth (λ f. omega (arith, f))
-refused_at m a (Some place) named = refused_in m a place (slice_get m.zones place) named refl
+refused_at m a (Some index) named = refused_in m a index (slice_get m.zones index) named refl
 
 refusal : (m : Machine) (a : Asked) → IsRefusal m a (admission m.zones a)
 refusal m a =
@@ -90,30 +90,30 @@ AnswerCause m a = IsForClosed m a ⊎ LacksRoom m a
 abbrev AreWaiting : Type 0 → Machine → Machine → Type 0
 AreWaiting Cause old m = AllByRecursion (WaitsBy Cause old) m.waiting
 
-one_more : (Cause : Type 0) (old m : Machine) (a : Asked) (place rcode serial : ℕ) (updates : List Made) → AreWaiting Cause old m → (rcode ≡ 2 → Cause) → Ended Cause old (waits m a place rcode serial updates, [])
-one_more Cause old m a place rcode serial updates before cause = record { sent = tt; waiting = all_more (WaitsBy Cause old) m.waiting _ before (λ e. inr (cause e)) }
+one_more : (Cause : Type 0) (old m : Machine) (a : Asked) (index rcode serial : ℕ) (updates : List Made) → AreWaiting Cause old m → (rcode ≡ 2 → Cause) → Ended Cause old (waits m a index rcode serial updates, [])
+one_more Cause old m a index rcode serial updates before cause = record { sent = tt; waiting = all_more (WaitsBy Cause old) m.waiting _ before (λ e. inr (cause e)) }
 
 at_once : (Cause : Type 0) (old m : Machine) (a : Asked) (rcode : ℕ) → AreWaiting Cause old m → (rcode % 16 ≡ 2 → Cause) → Ended Cause old (m, replies a rcode ∷ [])
 at_once Cause old m a rcode before cause = record { sent = (cause, tt); waiting = before }
 
-ends_accepted : (old m : Machine) (a : Asked) (place : ℕ) (z : ZoneState) (records : List Record) → AreWaiting (AnswerCause m a) old m → admission m.zones a ≡ Admits place z
-    → verdict (newest_zone (kept_of z)) a.message.answers a.message.authorities ≡ Leaves records → Ended (AnswerCause m a) old (accepted_in m a place z records)
-ends_accepted old m a place z records before admits leaves =
+ends_accepted : (old m : Machine) (a : Asked) (index : ℕ) (z : ZoneState) (records : List Record) → AreWaiting (AnswerCause m a) old m → admission m.zones a ≡ Admits index z
+    → verdict (newest_zone (kept_of z)) a.message.answers a.message.authorities ≡ Leaves records → Ended (AnswerCause m a) old (accepted_in m a index z records)
+ends_accepted old m a index z records before admits leaves =
     let Cause = AnswerCause m a in
-    tested (Ended Cause old) (has_room (kept_of z) records) (stages m a place z records, []) (waits m a place rcode_servfail (newest_serial z) (updates_of z), [])
+    tested (Ended Cause old) (has_room (kept_of z) records) (stages m a index z records, []) (waits m a index rcode_servfail (newest_serial z) (updates_of z), [])
     (λ _. record { sent = tt; waiting = all_more (WaitsBy Cause old) m.waiting _ before (λ e. absurd (omega (arith, e))) })
-    (λ none. one_more Cause old m a place rcode_servfail (newest_serial z) (updates_of z) before (λ _. inr (record { place = place; zone = z; records = records; admits = admits; leaves = leaves; room = none })))
+    (λ none. one_more Cause old m a index rcode_servfail (newest_serial z) (updates_of z) before (λ _. inr (record { index = index; zone = z; records = records; admits = admits; leaves = leaves; room = none })))
 
-ends_judged : (old m : Machine) (a : Asked) (place : ℕ) (z : ZoneState) (v : Verdict) → AreWaiting (AnswerCause m a) old m → admission m.zones a ≡ Admits place z
-    → verdict (newest_zone (kept_of z)) a.message.answers a.message.authorities ≡ v → OtherVerdict v → Ended (AnswerCause m a) old (judged_in m a place z v)
-ends_judged old m a place z (Refuses rcode) before admits is other = one_more (AnswerCause m a) old m a place (number_of_rcode rcode) (newest_serial z) (updates_of z) before (λ e. absurd (other e))
-ends_judged old m a place z Keeps before admits is other = one_more (AnswerCause m a) old m a place 0 (newest_serial z) (updates_of z) before (λ e. absurd (omega (arith, e)))
-ends_judged old m a place z (Leaves records) before admits is other = ends_accepted old m a place z records before admits is
+ends_judged : (old m : Machine) (a : Asked) (index : ℕ) (z : ZoneState) (v : Verdict) → AreWaiting (AnswerCause m a) old m → admission m.zones a ≡ Admits index z
+    → verdict (newest_zone (kept_of z)) a.message.answers a.message.authorities ≡ v → OtherVerdict v → Ended (AnswerCause m a) old (judged_in m a index z v)
+ends_judged old m a index z (Refuses rcode) before admits is other = one_more (AnswerCause m a) old m a index (number_of_rcode rcode) (newest_serial z) (updates_of z) before (λ e. absurd (other e))
+ends_judged old m a index z Keeps before admits is other = one_more (AnswerCause m a) old m a index 0 (newest_serial z) (updates_of z) before (λ e. absurd (omega (arith, e)))
+ends_judged old m a index z (Leaves records) before admits is other = ends_accepted old m a index z records before admits is
 
 ends_admitted : (old m : Machine) (a : Asked) (d : Admission) → AreWaiting (AnswerCause m a) old m → admission m.zones a ≡ d → IsRefusal m a d → Ended (AnswerCause m a) old (admitted m a d)
 ends_admitted old m a (Rejects rcode) before is closed = at_once (AnswerCause m a) old m a rcode before (λ e. inl (closed e))
-ends_admitted old m a (Admits place z) before is closed =
-    ends_judged old m a place z (verdict (newest_zone (kept_of z)) a.message.answers a.message.authorities) before is refl (other_verdict (newest_zone (kept_of z)) a.message.answers a.message.authorities)
+ends_admitted old m a (Admits index z) before is closed =
+    ends_judged old m a index z (verdict (newest_zone (kept_of z)) a.message.answers a.message.authorities) before is refl (other_verdict (newest_zone (kept_of z)) a.message.answers a.message.authorities)
 
 -- what waits stays
 waited : (old : Machine) (ws : List Waits) → ((w : Waits) → Contains ws w → Contains old.waiting w) → (Cause : Type 0) → AllByRecursion (WaitsBy Cause old) ws
@@ -331,9 +331,9 @@ redirected Cause old number (w ∷ ws) there = (
   redirected Cause old number ws (λ x h. there x (suc h.0, omega (arith, h.1), h.2)),
 )
 
-checkpointed : (fails : List Bool) (old : Machine) (place : ℕ) (o : Option ZoneState) (effects : Effects) (new : Machine) → IsCheckpointed fails old place o effects new → Ended ⊥ old (new, effects.sent)
-checkpointed fails old place None effects new g = reaches _ old new old effects.sent [] (g.1).state (g.1).sent (record { sent = tt; waiting = waited_all old _ })
-checkpointed fails old place (Some z) effects new g =
+checkpointed : (fails : List Bool) (old : Machine) (index : ℕ) (o : Option ZoneState) (effects : Effects) (new : Machine) → IsCheckpointed fails old index o effects new → Ended ⊥ old (new, effects.sent)
+checkpointed fails old index None effects new g = reaches _ old new old effects.sent [] (g.1).state (g.1).sent (record { sent = tt; waiting = waited_all old _ })
+checkpointed fails old index (Some z) effects new g =
     reaches _ old new _ effects.sent (flush_sends g.0 old) (g.3).is (g.4).sent (record { sent = none_at_once _ _ old.waiting; waiting = tt })
 
 goes : (fails : List Bool) (old : Machine) (event : Event) (effects : Effects) (new : Machine) → Goes fails old event effects new → Ended (EventCause fails old event) old (new, effects.sent)
@@ -344,7 +344,7 @@ goes fails old (Connect peer) effects new g = elim (g.1) [
 ]
 goes fails old (Arrives number octets) effects new g = arrived fails old number (peer_at number old.connections) octets effects new g
 goes fails old Flush effects new g = reaches _ old new (flushed fails old) effects.sent (flush_sends fails old) (g.1).state (g.1).sent (record { sent = none_at_once _ _ old.waiting; waiting = tt })
-goes fails old (Checkpoint place) effects new g = checkpointed fails old place (slice_get old.zones place) effects new g
+goes fails old (Checkpoint index) effects new g = checkpointed fails old index (slice_get old.zones index) effects new g
 goes fails old (Pump number) effects new g = pumped old number (sending_at number old.connections) effects.sent new g.1
 goes fails old (Closed number) effects new g = reaches _ old new _ effects.sent [] (g.1).state (g.1).sent (record { sent = tt; waiting = redirected _ old number old.waiting (λ w h. h) })
 

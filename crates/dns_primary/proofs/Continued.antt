@@ -34,19 +34,19 @@ abbrev SameConnections : Machine → Machine → Type 0
 SameConnections old new = new.connections ≡ old.connections
 
 -- an update touches no connection
-accepted_same : (m : Machine) (a : Asked) (place : ℕ) (z : ZoneState) (records : List Record) → SameConnections m (accepted_in m a place z records).0
-accepted_same m a place z records =
+accepted_same : (m : Machine) (a : Asked) (index : ℕ) (z : ZoneState) (records : List Record) → SameConnections m (accepted_in m a index z records).0
+accepted_same m a index z records =
     let P = λ (r : Machine × List Sent). SameConnections m r.0 in
     tested P (has_room (kept_of z) records) _ _ (λ _. refl) (λ _. refl)
 
-judged_same : (m : Machine) (a : Asked) (place : ℕ) (z : ZoneState) (v : Verdict) → SameConnections m (judged_in m a place z v).0
-judged_same m a place z (Refuses rcode) = refl
-judged_same m a place z Keeps = refl
-judged_same m a place z (Leaves records) = accepted_same m a place z records
+judged_same : (m : Machine) (a : Asked) (index : ℕ) (z : ZoneState) (v : Verdict) → SameConnections m (judged_in m a index z v).0
+judged_same m a index z (Refuses rcode) = refl
+judged_same m a index z Keeps = refl
+judged_same m a index z (Leaves records) = accepted_same m a index z records
 
 admitted_same : (m : Machine) (a : Asked) (d : Admission) → SameConnections m (admitted m a d).0
 admitted_same m a (Rejects rcode) = refl
-admitted_same m a (Admits place z) = judged_same m a place z (verdict (newest_zone (kept_of z)) a.message.answers a.message.authorities)
+admitted_same m a (Admits index z) = judged_same m a index z (verdict (newest_zone (kept_of z)) a.message.answers a.message.authorities)
 
 begun_same : (fails : List Bool) (old : Machine) (lacked : Option (ℕ × ℕ)) (first : Effects) (mid : Machine) → IsUpdateBegun fails old lacked first mid → SameConnections old mid
 begun_same fails old None first mid g =
@@ -57,9 +57,9 @@ updated_same : (fails : List Bool) (old : Machine) (a : Asked) (effects : Effect
 updated_same fails old a effects new u =
     ap (λ (m : Machine). m.connections) u.state ∙ admitted_same u.mid a (admission (u.mid).zones a) ∙ begun_same fails old (room_lacked old a) u.first u.mid u.begun
 
-checkpointed_same : (fails : List Bool) (old : Machine) (place : ℕ) (o : Option ZoneState) (effects : Effects) (new : Machine) → IsCheckpointed fails old place o effects new → SameConnections old new
-checkpointed_same fails old place None effects new g = ap (λ (m : Machine). m.connections) (g.1).state
-checkpointed_same fails old place (Some z) effects new g = begun_same fails old (Some (place, 0)) effects new g
+checkpointed_same : (fails : List Bool) (old : Machine) (index : ℕ) (o : Option ZoneState) (effects : Effects) (new : Machine) → IsCheckpointed fails old index o effects new → SameConnections old new
+checkpointed_same fails old index None effects new g = ap (λ (m : Machine). m.connections) (g.1).state
+checkpointed_same fails old index (Some z) effects new g = begun_same fails old (Some (index, 0)) effects new g
 
 lacks_same : (fails : List Bool) (old : Machine) (event : Event) (effects : Effects) (new : Machine) → Lacks fails old event effects new → SameConnections old new
 lacks_same fails old event effects new l = elim (l.stays) [
@@ -272,8 +272,8 @@ module _ (number : ℕ) where
       untouched s (Arrives k octets) effects _ (λ e. cc e) (λ e. cc e)
       (⊎_elim (λ same. same ∙ at) (λ o. not_taken old s (to.Connection k) o.0 (handled (shown_zones old) octets Tcp) new at (inr o.2)) (arrived fails old k (peer_at k old.connections) octets effects new refl g))
   event_goes fails old Flush effects new s at g = untouched s Flush effects _ (λ e. cc e) (λ e. cc e) (same_by old new (ap (λ (m : Machine). m.connections) (g.1).state) ∙ at)
-  event_goes fails old (Checkpoint place) effects new s at g =
-      untouched s (Checkpoint place) effects _ (λ e. cc e) (λ e. cc e) (same_by old new (checkpointed_same fails old place (slice_get old.zones place) effects new g) ∙ at)
+  event_goes fails old (Checkpoint index) effects new s at g =
+      untouched s (Checkpoint index) effects _ (λ e. cc e) (λ e. cc e) (same_by old new (checkpointed_same fails old index (slice_get old.zones index) effects new g) ∙ at)
   event_goes fails old (Pump n) effects new s at g = pump_goes old n s effects new at g.1
   event_goes fails old (Closed n) effects new s at g = close_goes old n s effects new at (g.1).state
 
@@ -355,7 +355,7 @@ module _ (number : ℕ) where
   event_opened fails old (Connect peer) effects new s none some g = is_new old new s none some (connected_same old new peer effects g.1)
   event_opened fails old (Arrives k octets) effects new s none some g = arrives_opened fails old k octets effects new s none some g
   event_opened fails old Flush effects new s none some g = is_new old new s none some (same_by old new (ap (λ (m : Machine). m.connections) (g.1).state))
-  event_opened fails old (Checkpoint place) effects new s none some g = is_new old new s none some (same_by old new (checkpointed_same fails old place (slice_get old.zones place) effects new g))
+  event_opened fails old (Checkpoint index) effects new s none some g = is_new old new s none some (same_by old new (checkpointed_same fails old index (slice_get old.zones index) effects new g))
   event_opened fails old (Pump n) effects new s none some g = is_new old new s none some (pump_opened old n effects new none g.1)
   event_opened fails old (Closed n) effects new s none some g = is_new old new s none some (close_opened old n new none (g.1).state)
 

@@ -1,5 +1,5 @@
 -- Zones after what comes first: an update is admitted there as before, unless its zone is closed then.
-use Rattle.std.proofs.Common.{◌≡◌, inl, inr, ⊎_elim, ℕ, zero, suc, Bool, true, false, not, List, [], ◌∷◌, ◌++◌, Option, Some, None, refl, sym, ap, subst, ◌∙◌, append-nil}
+use Rattle.std.proofs.Common.{◌≡◌, inl, inr, ℕ, zero, suc, Bool, true, false, not, List, [], ◌∷◌, ◌++◌, Option, Some, None, refl, sym, ap, subst, ◌∙◌, append-nil}
 use Rattle.std.specs.Prelude.{slice_get, slice_set, option_map, ◌==◌, if◌then◌else◌}
 use Rattle.std.specs.declared.net.ip_addr.IpAddr.{IpAddr}
 use Rattle.dns_names.specs.Name.{Labels, names_eq}
@@ -9,14 +9,14 @@ use Rattle.dns_request.specs.Codes.{rcode_formerr, rcode_notauth, rcode_refused,
 use Rattle.dns_store.specs.Versions.{newest_after}
 use Rattle.dns_versions.specs.Each.{Each2}
 use Rattle.dns_versions.specs.Held.{newest_zone}
-use Rattle.dns_primary.specs.declared.update.Judgement.{Judgement}
+use Rattle.dns_primary.specs.declared.update.Planned.{Planned}
 use Rattle.dns_primary.specs.Machine.{Setting, Made, ZoneState, Machine, kept_of, versions_of}
 use Rattle.dns_primary.specs.Flush.{Sent, flushed, flush_sends, flushed_zone, flushed_zones}
 use Rattle.dns_primary.specs.Update.{Asked, Admission, Rejects, Admits, admission, admission_at, admission_in, zone_position, is_full, lacked_at, room_lacked}
 use Rattle.dns_primary.specs.Checkpoint.{rebased, IsMovedUnlessClosed, IsCheckpoint}
 use Rattle.dns_primary.specs.Step.{Effects, IsUpdateBegun}
 use Rattle.dns_primary.specs.Outcome.{lacked_of}
-use Rattle.dns_primary.specs.Queue.{IsUpdateJudged}
+use Rattle.dns_primary.specs.Queue.{IsUpdatePlanned}
 use Rattle.dns_primary.proofs.Zonewise.{tested, pair_same, pair_on, pair_set, versions_joined}
 
 -- The same settings and the same newest version, and what was closed is closed.
@@ -64,12 +64,12 @@ moved_follows : (fails : Bool) (room : ℕ) (z w : ZoneState) → IsMovedUnlessC
 moved_follows fails room z w (inl h) = same_follows z w h.2
 moved_follows fails room z w (inr h) = subst (λ (x : ZoneState). Follows z x) (sym (h.1).2) (rebased_follows fails (h.1).0 z)
 
-checkpoint_follows : (place room : ℕ) (old : Machine) (fails : List Bool) (moving : Bool) (new : Machine) → IsCheckpoint place room old fails moving new → Each2 Follows old.zones new.zones
-checkpoint_follows place room old fails moving new made =
+checkpoint_follows : (index room : ℕ) (old : Machine) (fails : List Bool) (moving : Bool) (new : Machine) → IsCheckpoint index room old fails moving new → Each2 Follows old.zones new.zones
+checkpoint_follows index room old fails moving new made =
     let zones = (flushed fails old).zones in
     subst (λ (m : Machine). Each2 Follows old.zones m.zones) (sym made.is)
-    (pair_on Follows follows_on old.zones zones (slice_set zones place made.next) (flushed_all fails old.zones)
-    (pair_set Follows follows_itself zones place made.zone made.next made.stands (moved_follows moving room made.zone made.next made.moved)))
+    (pair_on Follows follows_on old.zones zones (slice_set zones index made.next) (flushed_all fails old.zones)
+    (pair_set Follows follows_itself zones index made.zone made.next made.stands (moved_follows moving room made.zone made.next made.moved)))
 
 pub begun_follows : (fails : List Bool) (old : Machine) (lacked : Option (ℕ × ℕ)) (effects : Effects) (mid : Machine) → IsUpdateBegun fails old lacked effects mid → Each2 Follows old.zones mid.zones
 begun_follows fails old None effects mid h =
@@ -84,12 +84,12 @@ SameAt (Some z) (Some w) = Follows z w
 SameAt None (Some w) = ⊥
 SameAt (Some z) None = ⊥
 
-at_follows : (zones news : List ZoneState) → Each2 Follows zones news → (place : ℕ) → SameAt (slice_get zones place) (slice_get news place)
-at_follows [] [] h place = tt
-at_follows [] (w ∷ news) h place = absurd h
-at_follows (z ∷ zones) [] h place = absurd h
+at_follows : (zones news : List ZoneState) → Each2 Follows zones news → (index : ℕ) → SameAt (slice_get zones index) (slice_get news index)
+at_follows [] [] h index = tt
+at_follows [] (w ∷ news) h index = absurd h
+at_follows (z ∷ zones) [] h index = absurd h
 at_follows (z ∷ zones) (w ∷ news) h zero = h.0
-at_follows (z ∷ zones) (w ∷ news) h (suc place) = at_follows zones news h.1 place
+at_follows (z ∷ zones) (w ∷ news) h (suc index) = at_follows zones news h.1 index
 
 place_follows : (apex : Labels) (zones news : List ZoneState) → Each2 Follows zones news → zone_position apex zones ≡ zone_position apex news
 place_follows apex [] [] h = refl
@@ -101,36 +101,36 @@ place_follows apex (z ∷ zones) (w ∷ news) h =
     λ i. if names_eq (same i).shape.apex apex then Some 0 else option_map suc (rest i)
 
 -- The zone that was admitted, as it is now.
-pub record StandsStill (news : List ZoneState) (place : ℕ) (z : ZoneState) (new : Admission) : Type 0 where
+pub record StandsStill (news : List ZoneState) (index : ℕ) (z : ZoneState) (new : Admission) : Type 0 where
   pub zone : ZoneState
-  pub stands : slice_get news place ≡ Some zone
+  pub stands : slice_get news index ≡ Some zone
   pub follows : Follows z zone
   pub shut : zone.closed ≡ true → new ≡ Rejects rcode_servfail
-  pub admits : zone.closed ≡ false → new ≡ Admits place zone
+  pub admits : zone.closed ≡ false → new ≡ Admits index zone
 
 abbrev pub Goes : List ZoneState → Admission → Admission → Type 0
 Goes news (Rejects code) new = new ≡ Rejects code
-Goes news (Admits place z) new = StandsStill news place z new
+Goes news (Admits index z) new = StandsStill news index z new
 
-one_goes : (news : List ZoneState) (place : ℕ) (z w : ZoneState) → slice_get news place ≡ Some w → Follows z w → (b d c e : Bool) → d ≡ b → w.closed ≡ e → (c ≡ true → e ≡ true)
-    → Goes news (if not b then Rejects rcode_refused else if c then Rejects rcode_servfail else Admits place z) (if not d then Rejects rcode_refused else if e then Rejects rcode_servfail else Admits place w)
-one_goes news place z w there f false false c e same is on = refl
-one_goes news place z w there f false true c e same is on = absurd (cc same)
-one_goes news place z w there f true false c e same is on = absurd (cc same)
-one_goes news place z w there f true true true true same is on = refl
-one_goes news place z w there f true true true false same is on = (let clash : false ≡ true = on refl in absurd (cc clash))
-one_goes news place z w there f true true false true same is on = record { zone = w; stands = there; follows = f; shut = λ _. refl; admits = λ o. (let clash : true ≡ false = sym is ∙ o in absurd (cc clash)) }
-one_goes news place z w there f true true false false same is on = record { zone = w; stands = there; follows = f; shut = λ o. (let clash : false ≡ true = sym is ∙ o in absurd (cc clash)); admits = λ _. refl }
+one_goes : (news : List ZoneState) (index : ℕ) (z w : ZoneState) → slice_get news index ≡ Some w → Follows z w → (b d c e : Bool) → d ≡ b → w.closed ≡ e → (c ≡ true → e ≡ true)
+    → Goes news (if not b then Rejects rcode_refused else if c then Rejects rcode_servfail else Admits index z) (if not d then Rejects rcode_refused else if e then Rejects rcode_servfail else Admits index w)
+one_goes news index z w there f false false c e same is on = refl
+one_goes news index z w there f false true c e same is on = absurd (cc same)
+one_goes news index z w there f true false c e same is on = absurd (cc same)
+one_goes news index z w there f true true true true same is on = refl
+one_goes news index z w there f true true true false same is on = (let clash : false ≡ true = on refl in absurd (cc clash))
+one_goes news index z w there f true true false true same is on = record { zone = w; stands = there; follows = f; shut = λ _. refl; admits = λ o. (let clash : true ≡ false = sym is ∙ o in absurd (cc clash)) }
+one_goes news index z w there f true true false false same is on = record { zone = w; stands = there; follows = f; shut = λ o. (let clash : false ≡ true = sym is ∙ o in absurd (cc clash)); admits = λ _. refl }
 
-in_goes : (news : List ZoneState) (address : IpAddr) (place : ℕ) (o p : Option ZoneState) → slice_get news place ≡ p → SameAt o p → Goes news (admission_in address place o) (admission_in address place p)
-in_goes news address place None None e f = refl
-in_goes news address place None (Some w) e f = absurd f
-in_goes news address place (Some z) None e f = absurd f
-in_goes news address place (Some z) (Some w) e f = one_goes news place z w e f (z.setting.may_update address) (w.setting.may_update address) z.closed w.closed (ap (λ (t : Setting). t.may_update address) f.setting) refl f.shut
+in_goes : (news : List ZoneState) (address : IpAddr) (index : ℕ) (o p : Option ZoneState) → slice_get news index ≡ p → SameAt o p → Goes news (admission_in address index o) (admission_in address index p)
+in_goes news address index None None e f = refl
+in_goes news address index None (Some w) e f = absurd f
+in_goes news address index (Some z) None e f = absurd f
+in_goes news address index (Some z) (Some w) e f = one_goes news index z w e f (z.setting.may_update address) (w.setting.may_update address) z.closed w.closed (ap (λ (t : Setting). t.may_update address) f.setting) refl f.shut
 
 at_goes : (zones news : List ZoneState) → Each2 Follows zones news → (address : IpAddr) (o : Option ℕ) → Goes news (admission_at zones address o) (admission_at news address o)
 at_goes zones news h address None = refl
-at_goes zones news h address (Some place) = in_goes news address place (slice_get zones place) (slice_get news place) refl (at_follows zones news h place)
+at_goes zones news h address (Some index) = in_goes news address index (slice_get zones index) (slice_get news index) refl (at_follows zones news h index)
 
 both_if : (P : Admission → Admission → Type 0) (b : Bool) (x y v w : Admission) → P x v → P y w → P (if b then x else y) (if b then v else w)
 both_if P true x y v w p q = p
@@ -150,6 +150,6 @@ module _ (old mid : Machine) (a : Asked) (h : Each2 Follows old.zones mid.zones)
 pub rejected_lacks : (old : Machine) (a : Asked) (code : ℕ) → admission old.zones a ≡ Rejects code → room_lacked old a ≡ None
 rejected_lacks old a code e = ap (lacked_at a) e
 
-pub judged_lacks : {X : Type 0} (records : X → List Record) (old : Machine) (a : Asked) (place : ℕ) (j : Judgement X) → IsUpdateJudged records old a place j
-    → option_map (λ (sectors : ℕ). (place, sectors)) (lacked_of j) ≡ room_lacked old a
-judged_lacks records old a place j is = ap (λ (o : Option ℕ). option_map (λ (sectors : ℕ). (place, sectors)) o) is.lacks ∙ sym (ap (lacked_at a) is.admits)
+pub planned_lacks : {X : Type 0} (old : Machine) (a : Asked) (index : ℕ) (p : Planned X) → IsUpdatePlanned old a index p
+    → option_map (λ (sectors : ℕ). (index, sectors)) (lacked_of p) ≡ room_lacked old a
+planned_lacks old a index p is = ap (λ (o : Option ℕ). option_map (λ (sectors : ℕ). (index, sectors)) o) is.lacks ∙ sym (ap (lacked_at a) is.admits)

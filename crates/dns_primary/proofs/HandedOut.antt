@@ -10,7 +10,7 @@ use Rattle.dns_store.specs.Opens.{opens}
 use Rattle.dns_store.specs.Opening.{keeps}
 use Rattle.dns_store.specs.Laws.{at_rest_of, honest_of}
 use Rattle.dns_store.specs.declared.kept_store.KeptStore.{KeptStore}
-use Rattle.dns_versions.specs.declared.pending.PendingZone.{PendingZone}
+use Rattle.dns_versions.specs.declared.zone_versions.ZoneVersions.{ZoneVersions}
 use Rattle.dns_versions.specs.Each.{Each3}
 use Rattle.dns_versions.specs.Held.{HasVersions}
 use Rattle.dns_primary.specs.declared.primary.ZoneSpec.{ZoneSpec}
@@ -28,7 +28,7 @@ module _ {D I : Type 0} {g : Ghosts D} (m : Machine) (event : Event)
     (only_now : (device : D) (c : Content) → g.is_honest device → g.left_since device (g.moment device) c → g.may_leave device c)
   where
     -- between two events
-    rests_recoverable : (making : ℕ → Type 0) (a : Labels) (s : ZoneSpec) (z : ZoneState) (zone : Zone) (b : PendingZone I (KeptStore D I g)) → IsSetAs a s z → HasVersions (λ (x : KeptStore D I g) k. keeps x k) zone b (kept_of z) → IsRecoverable g 0 making z a s (device_of_pending b)
+    rests_recoverable : (making : ℕ → Type 0) (a : Labels) (s : ZoneSpec) (z : ZoneState) (zone : Zone) (b : ZoneVersions I (KeptStore D I g)) → IsSetAs a s z → HasVersions (λ (x : KeptStore D I g) k. keeps x k) zone b (kept_of z) → IsRecoverable g 0 making z a s (device_of_pending b)
     rests_recoverable making a s z zone b so h =
         let k = kept_of z in
         let journal = b.store.journal in
@@ -41,30 +41,30 @@ module _ {D I : Type 0} {g : Ghosts D} (m : Machine) (event : Event)
           leaves = λ c left. left_recovered making z c (at_rest_of only_now journal k k.closed h.kept.keeps c (counts_now (device_of journal) (g.moment (device_of journal)) c honest (omega arith) left));
         }
 
-    pub rest_recoverable : (place : ℕ) (zones : List Zone) (pending : List (PendingZone I (KeptStore D I g))) (states : List ZoneState) (apexes : List Labels) (settings : List ZoneSpec)
-        → HaveVersions (λ (x : KeptStore D I g) k. keeps x k) zones pending states → AreSetAs apexes settings states → AreRecoverable g 0 m event place states apexes settings (map (λ b. device_of_pending b) pending)
-    rest_recoverable place [] [] [] [] [] held so = tt
-    rest_recoverable place (y ∷ zones) (b ∷ pending) (z ∷ states) (a ∷ apexes) (s ∷ settings) held so =
-        (rests_recoverable (IsMaking m event place z) a s z y b so.0 held.0, rest_recoverable (suc place) zones pending states apexes settings held.1 so.1)
-    rest_recoverable place zones pending [] (a ∷ apexes) [] held so = absurd so
-    rest_recoverable place zones pending [] (a ∷ apexes) (s ∷ settings) held so = absurd so
-    rest_recoverable place zones pending [] [] (s ∷ settings) held so = absurd so
-    rest_recoverable place zones pending (z ∷ states) [] [] held so = absurd so
-    rest_recoverable place zones pending (z ∷ states) [] (s ∷ settings) held so = absurd so
-    rest_recoverable place zones pending (z ∷ states) (a ∷ apexes) [] held so = absurd so
-    rest_recoverable place _ _ _ apexes settings held so = absurd held
+    pub rest_recoverable : (index : ℕ) (zones : List Zone) (pending : List (ZoneVersions I (KeptStore D I g))) (states : List ZoneState) (apexes : List Labels) (settings : List ZoneSpec)
+        → HaveVersions (λ (x : KeptStore D I g) k. keeps x k) zones pending states → AreSetAs apexes settings states → AreRecoverable g 0 m event index states apexes settings (map (λ b. device_of_pending b) pending)
+    rest_recoverable index [] [] [] [] [] held so = tt
+    rest_recoverable index (y ∷ zones) (b ∷ pending) (z ∷ states) (a ∷ apexes) (s ∷ settings) held so =
+        (rests_recoverable (IsMaking m event index z) a s z y b so.0 held.0, rest_recoverable (suc index) zones pending states apexes settings held.1 so.1)
+    rest_recoverable index zones pending [] (a ∷ apexes) [] held so = absurd so
+    rest_recoverable index zones pending [] (a ∷ apexes) (s ∷ settings) held so = absurd so
+    rest_recoverable index zones pending [] [] (s ∷ settings) held so = absurd so
+    rest_recoverable index zones pending (z ∷ states) [] [] held so = absurd so
+    rest_recoverable index zones pending (z ∷ states) [] (s ∷ settings) held so = absurd so
+    rest_recoverable index zones pending (z ∷ states) (a ∷ apexes) [] held so = absurd so
+    rest_recoverable index _ _ _ apexes settings held so = absurd held
 
-    pub all_honest : (zones : List Zone) (pending : List (PendingZone I (KeptStore D I g))) (states : List ZoneState) → HaveVersions (λ (x : KeptStore D I g) k. keeps x k) zones pending states → AllByRecursion (λ b. g.is_honest (device_of_pending b)) pending
+    pub all_honest : (zones : List Zone) (pending : List (ZoneVersions I (KeptStore D I g))) (states : List ZoneState) → HaveVersions (λ (x : KeptStore D I g) k. keeps x k) zones pending states → AllByRecursion (λ b. g.is_honest (device_of_pending b)) pending
     all_honest [] [] [] held = tt
     all_honest (y ∷ zones) (b ∷ pending) (z ∷ states) held =
         (honest_of b.store.journal (kept_of z) (kept_of z).closed held.0.kept.keeps, all_honest zones pending states held.1)
     all_honest _ _ _ held = absurd held
 
     -- within an event
-    abbrev pub LeavesZone : PendingZone I (KeptStore D I g) → PendingZone I (KeptStore D I g) → Option ℕ × ZoneState → Type 0
+    abbrev pub LeavesZone : ZoneVersions I (KeptStore D I g) → ZoneVersions I (KeptStore D I g) → Option ℕ × ZoneState → Type 0
     LeavesZone a b k = LeavesOnly (λ (x : KeptStore D I g). g.moment (device_of x.journal)) (λ (x : KeptStore D I g). g.left_since (device_of x.journal)) a.store b.store (OpensAsEvent opens k.0 k.1)
 
-    left_now : (making : ℕ → Type 0) (a : Labels) (s : ZoneSpec) (z : ZoneState) (old new : PendingZone I (KeptStore D I g)) (room : Option ℕ) → IsSetAs a s z → g.is_honest (device_of_pending new) → LeavesZone old new (room, z)
+    left_now : (making : ℕ → Type 0) (a : Labels) (s : ZoneSpec) (z : ZoneState) (old new : ZoneVersions I (KeptStore D I g)) (room : Option ℕ) → IsSetAs a s z → g.is_honest (device_of_pending new) → LeavesZone old new (room, z)
         → ((c : Content) → OpensAsEvent opens room z c → OpensAsRecovered opens 0 making z c) → IsRecoverable g 0 making z a s (device_of_pending new)
     left_now making a s z old new room so honest leaves recovers = record {
       shape = so.shape;
@@ -74,40 +74,40 @@ module _ {D I : Type 0} {g : Ghosts D} (m : Machine) (event : Event)
       leaves = λ c left. recovers c (leaves.each c (counts_now (device_of_pending new) (g.moment (device_of_pending old)) c honest leaves.later left));
     }
 
-    none_moved : (place : ℕ) (olds news : List (PendingZone I (KeptStore D I g))) (states : List ZoneState) (apexes : List Labels) (settings : List ZoneSpec)
-        → AreSetAs apexes settings states → AllByRecursion (λ b. g.is_honest (device_of_pending b)) news → Each3 LeavesZone olds news (map without_room states) → AreRecoverable g 0 m event place states apexes settings (map (λ b. device_of_pending b) news)
-    none_moved place [] [] [] [] [] so honest leaves = tt
-    none_moved place (o ∷ olds) (n ∷ news) (z ∷ states) (a ∷ apexes) (s ∷ settings) so honest leaves =
-        (left_now (IsMaking m event place z) a s z o n None so.0 honest.0 leaves.0 (λ c is. left_recovered (IsMaking m event place z) z c is), none_moved (suc place) olds news states apexes settings so.1 honest.1 leaves.1)
-    none_moved place olds news [] (a ∷ apexes) [] so honest leaves = absurd so
-    none_moved place olds news [] (a ∷ apexes) (s ∷ settings) so honest leaves = absurd so
-    none_moved place olds news [] [] (s ∷ settings) so honest leaves = absurd so
-    none_moved place olds news (z ∷ states) [] [] so honest leaves = absurd so
-    none_moved place olds news (z ∷ states) [] (s ∷ settings) so honest leaves = absurd so
-    none_moved place olds news (z ∷ states) (a ∷ apexes) [] so honest leaves = absurd so
-    none_moved place _ _ _ apexes settings so honest leaves = absurd leaves
+    none_moved : (index : ℕ) (olds news : List (ZoneVersions I (KeptStore D I g))) (states : List ZoneState) (apexes : List Labels) (settings : List ZoneSpec)
+        → AreSetAs apexes settings states → AllByRecursion (λ b. g.is_honest (device_of_pending b)) news → Each3 LeavesZone olds news (map without_room states) → AreRecoverable g 0 m event index states apexes settings (map (λ b. device_of_pending b) news)
+    none_moved index [] [] [] [] [] so honest leaves = tt
+    none_moved index (o ∷ olds) (n ∷ news) (z ∷ states) (a ∷ apexes) (s ∷ settings) so honest leaves =
+        (left_now (IsMaking m event index z) a s z o n None so.0 honest.0 leaves.0 (λ c is. left_recovered (IsMaking m event index z) z c is), none_moved (suc index) olds news states apexes settings so.1 honest.1 leaves.1)
+    none_moved index olds news [] (a ∷ apexes) [] so honest leaves = absurd so
+    none_moved index olds news [] (a ∷ apexes) (s ∷ settings) so honest leaves = absurd so
+    none_moved index olds news [] [] (s ∷ settings) so honest leaves = absurd so
+    none_moved index olds news (z ∷ states) [] [] so honest leaves = absurd so
+    none_moved index olds news (z ∷ states) [] (s ∷ settings) so honest leaves = absurd so
+    none_moved index olds news (z ∷ states) (a ∷ apexes) [] so honest leaves = absurd so
+    none_moved index _ _ _ apexes settings so honest leaves = absurd leaves
 
-    one_moved : (place pending room : ℕ) (olds news : List (PendingZone I (KeptStore D I g))) (states : List ZoneState) (apexes : List Labels) (settings : List ZoneSpec)
-        → Checkpoints m event (place + pending) room
-        → AreSetAs apexes settings states → AllByRecursion (λ b. g.is_honest (device_of_pending b)) news → Each3 LeavesZone olds news (with_room pending room states) → AreRecoverable g 0 m event place states apexes settings (map (λ b. device_of_pending b) news)
-    one_moved place zero room [] [] [] [] [] makes so honest leaves = tt
-    one_moved place (suc pending) room [] [] [] [] [] makes so honest leaves = tt
-    one_moved place zero room (o ∷ olds) (n ∷ news) (z ∷ states) (a ∷ apexes) (s ∷ settings) makes so honest leaves =
-        let here : Checkpoints m event place room = subst (λ (p : ℕ). Checkpoints m event p room) (let e : place + 0 ≡ place = omega arith in e) makes in
-        (left_now (IsMaking m event place z) a s z o n (Some room) so.0 honest.0 leaves.0 (λ c is. checkpoint_recovered m event place room z c here is), none_moved (suc place) olds news states apexes settings so.1 honest.1 leaves.1)
-    one_moved place (suc pending) room (o ∷ olds) (n ∷ news) (z ∷ states) (a ∷ apexes) (s ∷ settings) makes so honest leaves =
-        let later : Checkpoints m event (suc place + pending) room = subst (λ (p : ℕ). Checkpoints m event p room) (let e : place + suc pending ≡ suc place + pending = omega arith in e) makes in
-        (left_now (IsMaking m event place z) a s z o n None so.0 honest.0 leaves.0 (λ c is. left_recovered (IsMaking m event place z) z c is), one_moved (suc place) pending room olds news states apexes settings later so.1 honest.1 leaves.1)
-    one_moved place pending room olds news [] (a ∷ apexes) [] makes so honest leaves = absurd so
-    one_moved place pending room olds news [] (a ∷ apexes) (s ∷ settings) makes so honest leaves = absurd so
-    one_moved place pending room olds news [] [] (s ∷ settings) makes so honest leaves = absurd so
-    one_moved place pending room olds news (z ∷ states) [] [] makes so honest leaves = absurd so
-    one_moved place pending room olds news (z ∷ states) [] (s ∷ settings) makes so honest leaves = absurd so
-    one_moved place pending room olds news (z ∷ states) (a ∷ apexes) [] makes so honest leaves = absurd so
-    one_moved place zero room _ _ _ apexes settings makes so honest leaves = absurd leaves
-    one_moved place (suc pending) room _ _ _ apexes settings makes so honest leaves = absurd leaves
+    one_moved : (index pending room : ℕ) (olds news : List (ZoneVersions I (KeptStore D I g))) (states : List ZoneState) (apexes : List Labels) (settings : List ZoneSpec)
+        → Checkpoints m event (index + pending) room
+        → AreSetAs apexes settings states → AllByRecursion (λ b. g.is_honest (device_of_pending b)) news → Each3 LeavesZone olds news (with_room pending room states) → AreRecoverable g 0 m event index states apexes settings (map (λ b. device_of_pending b) news)
+    one_moved index zero room [] [] [] [] [] makes so honest leaves = tt
+    one_moved index (suc pending) room [] [] [] [] [] makes so honest leaves = tt
+    one_moved index zero room (o ∷ olds) (n ∷ news) (z ∷ states) (a ∷ apexes) (s ∷ settings) makes so honest leaves =
+        let here : Checkpoints m event index room = subst (λ (p : ℕ). Checkpoints m event p room) (let e : index + 0 ≡ index = omega arith in e) makes in
+        (left_now (IsMaking m event index z) a s z o n (Some room) so.0 honest.0 leaves.0 (λ c is. checkpoint_recovered m event index room z c here is), none_moved (suc index) olds news states apexes settings so.1 honest.1 leaves.1)
+    one_moved index (suc pending) room (o ∷ olds) (n ∷ news) (z ∷ states) (a ∷ apexes) (s ∷ settings) makes so honest leaves =
+        let later : Checkpoints m event (suc index + pending) room = subst (λ (p : ℕ). Checkpoints m event p room) (let e : index + suc pending ≡ suc index + pending = omega arith in e) makes in
+        (left_now (IsMaking m event index z) a s z o n None so.0 honest.0 leaves.0 (λ c is. left_recovered (IsMaking m event index z) z c is), one_moved (suc index) pending room olds news states apexes settings later so.1 honest.1 leaves.1)
+    one_moved index pending room olds news [] (a ∷ apexes) [] makes so honest leaves = absurd so
+    one_moved index pending room olds news [] (a ∷ apexes) (s ∷ settings) makes so honest leaves = absurd so
+    one_moved index pending room olds news [] [] (s ∷ settings) makes so honest leaves = absurd so
+    one_moved index pending room olds news (z ∷ states) [] [] makes so honest leaves = absurd so
+    one_moved index pending room olds news (z ∷ states) [] (s ∷ settings) makes so honest leaves = absurd so
+    one_moved index pending room olds news (z ∷ states) (a ∷ apexes) [] makes so honest leaves = absurd so
+    one_moved index zero room _ _ _ apexes settings makes so honest leaves = absurd leaves
+    one_moved index (suc pending) room _ _ _ apexes settings makes so honest leaves = absurd leaves
 
-    pub event_recoverable : (moved : Option (ℕ × ℕ)) (olds news : List (PendingZone I (KeptStore D I g))) (states : List ZoneState) (apexes : List Labels) (settings : List ZoneSpec)
+    pub event_recoverable : (moved : Option (ℕ × ℕ)) (olds news : List (ZoneVersions I (KeptStore D I g))) (states : List ZoneState) (apexes : List Labels) (settings : List ZoneSpec)
         → ((p r : ℕ) → moved ≡ Some (p, r) → Checkpoints m event p r)
         → AreSetAs apexes settings states → AllByRecursion (λ b. g.is_honest (device_of_pending b)) news → Each3 LeavesZone olds news (with_rooms moved states) → AreRecoverable g 0 m event 0 states apexes settings (map (λ b. device_of_pending b) news)
     event_recoverable None olds news states apexes settings makes so honest leaves = none_moved 0 olds news states apexes settings so honest leaves

@@ -1,7 +1,6 @@
 -- What a judgement says of its verdict, and how an update ends by it.
-use Rattle.std.proofs.Common.{◌≡◌, ◌<◌, ◌≤◌, Bool, true, false, List, refl, sym, ap, subst, ◌∙◌, arith}
+use Rattle.std.proofs.Common.{◌≡◌, Bool, true, false, List, refl, sym, ap, subst, ◌∙◌, arith}
 use Rattle.std.specs.Prelude.{Err, if◌then◌else◌}
-use Rattle.std.proofs.lemmas.Bool.Decides.{nat_tests}
 use Rattle.dns_records.specs.Record.{Record}
 use Rattle.dns_changes.specs.Change.{Change, IsChange}
 use Rattle.dns_wire.specs.declared.codes.Rcode.{Rcode}
@@ -9,12 +8,12 @@ use Rattle.dns_wire.specs.declared.codes.Rcode.TheVariants.{NoError, ServFail}
 use Rattle.dns_update.specs.Verdict.{Verdict, Refuses, Keeps, Leaves, IsVerdict}
 use Rattle.dns_update.specs.declared.Judged.TheVariants as judged
 use Rattle.dns_store.specs.Versions.{Kept, staged_with}
-use Rattle.dns_versions.specs.declared.staging.StagingError.{StagingError}
-use Rattle.dns_versions.specs.declared.staging.StagingError.TheVariants as staging
+use Rattle.dns_journal.specs.declared.journal.StageError.{StageError}
+use Rattle.dns_journal.specs.declared.journal.StageError.TheVariants as refusal
 use Rattle.dns_versions.specs.Staging.{HasRoomBy, has_room}
 use Rattle.dns_primary.specs.declared.update.Outcome.{Outcome}
 use Rattle.dns_primary.specs.declared.update.Outcome.TheVariants.{Waits}
-use Rattle.dns_primary.specs.Outcome.{Ends, HasLeft, end_of, IsDone, refused_as}
+use Rattle.dns_primary.specs.Outcome.{ChangesNothing, Ends, HasLeft, end_of, IsDone, refused_as}
 
 pub refused_is : {X : Type 0} (records : X → List Record) (before : List Record) (v : Verdict) (rcode : Rcode) → IsVerdict records before v (judged.Refused rcode) → v ≡ Refuses rcode
 refused_is records before (Refuses r) rcode e = let same : r ≡ rcode = cc e in ap (λ x. Refuses x) same
@@ -55,11 +54,12 @@ pub ends_staged : (k : Kept) (after : List Record) → has_room k after ≡ true
 ends_staged k after room = tested (has_room k after) _ _ room
 
 module _ (held : Kept → Type 0) (k : Kept) where
-  pub done_refused : (v : Verdict) (rcode : Rcode) → v ≡ Refuses rcode → held k → IsDone held k v (Waits rcode)
-  done_refused v rcode e h = subst (λ (x : Verdict). IsDone held k x (Waits rcode)) (sym e) (refl, h)
-
-  pub done_kept : (v : Verdict) → v ≡ Keeps → held k → IsDone held k v (Waits NoError)
-  done_kept v e h = subst (λ (x : Verdict). IsDone held k x (Waits NoError)) (sym e) (refl, h)
+  pub done_unchanged : (v : Verdict) (rcode : Rcode) → ChangesNothing k v rcode → held k → IsDone held k v (Waits rcode)
+  done_unchanged (Refuses code) rcode e h = (ap (λ (r : Rcode). Waits r) e, h)
+  done_unchanged Keeps rcode e h = (ap (λ (r : Rcode). Waits r) e, h)
+  done_unchanged (Leaves after) rcode e h =
+      let is = ends_without_room k after e.0 in
+      (ap (λ (r : Rcode). Waits r) e.1 ∙ sym (ap (λ (d : Ends). d.outcome) is), subst (λ (d : Ends). held d.versions) (sym is) h)
 
   -- where the end is this one
   ended : (v : Verdict) (after : List Record) (o : Outcome) (kept : Kept) → v ≡ Leaves after → end_of k (Leaves after) ≡ record { outcome = o; versions = kept } → held kept → (o ≡ (end_of k v).outcome) × held (end_of k v).versions
@@ -69,8 +69,7 @@ module _ (held : Kept → Type 0) (k : Kept) where
   pub done_staged : (v : Verdict) (after : List Record) → v ≡ Leaves after → has_room k after ≡ true → held (staged_with after k) → IsDone held k v (Waits NoError)
   done_staged v after e room h = ended v after (Waits NoError) (staged_with after k) e (ends_staged k after room) h
 
-  pub done_unstaged : (v : Verdict) (after : List Record) (error : StagingError) → v ≡ Leaves after → HasLeft k v → HasRoomBy {T = Unit {0}} k after (Err error) → k.closed ≡ false → held k → IsDone held k v (refused_as error)
-  done_unstaged v after staging.NoRoom e left room opened h = ended v after (Waits ServFail) k e (ends_without_room k after room) h
-  done_unstaged v after staging.Full e left room opened h = absurd (omega (arith, room.1, left after e room.0))
-  done_unstaged v after staging.Closed e left room opened h = absurd (let clash : true ≡ false = sym room ∙ opened in cc clash)
-  done_unstaged v after staging.OutOfMemory e left room opened h = h
+  pub done_unstaged : (v : Verdict) (after : List Record) (error : StageError) → v ≡ Leaves after → HasLeft k v → has_room k after ≡ true → HasRoomBy {T = Unit {0}} k after (Err error) → k.closed ≡ false → held k → IsDone held k v (refused_as error)
+  done_unstaged v after refusal.Full e left has room opened h = absurd (omega (arith, room, left after e has))
+  done_unstaged v after refusal.Closed e left has room opened h = absurd (let clash : true ≡ false = sym room ∙ opened in cc clash)
+  done_unstaged v after refusal.OutOfMemory e left has room opened h = h

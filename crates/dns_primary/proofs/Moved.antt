@@ -1,11 +1,11 @@
 -- A step that moves the base of a zone, after a flush.
 use Rattle.std.proofs.Common.{◌≡◌, ◌⊎◌, inl, inr, ⊎_elim, ◌<◌, ◌≤◌, ◌-◌, ◌^◌, ℕ, zero, suc, Bool, true, false, List, [], ◌∷◌, length, map, Option, Some, None, Result, Ok, Err, refl, sym, ap, subst, ◌∙◌, arith, append-nil}
-use Rattle.std.specs.Prelude.{nat_lt, slice_get, slice_set, slice_index_or, is_some}
+use Rattle.std.specs.Prelude.{OnOk, OnErr, ◌↔◌, nat_lt, slice_get, slice_set, slice_index_or, is_some}
 use Rattle.std.proofs.lemmas.Bool.Decides.{nat_tests}
 use Rattle.dns_zone.specs.Sets.{true_or_false}
 use Rattle.dns_wire.proofs.Binds.{true_lt}
 use Rattle.dns_zone.specs.Zone.{Zone}
-use Rattle.dns_zone.specs.declared.index.ZoneIndex as index
+use Rattle.dns_zone.specs.declared.index.ZoneIndex as zone_index
 use Rattle.dns_records.specs.Record.{Record}
 use Rattle.dns_sectors.specs.Device.{Content, LeavesOnly}
 use Rattle.dns_sectors.proofs.Moments.{weaker}
@@ -13,7 +13,7 @@ use Rattle.dns_store.specs.declared.zone_store.ZoneStore as store
 use Rattle.dns_store.specs.declared.checkpoint.CheckpointError.{CheckpointError}
 use Rattle.dns_store.specs.declared.checkpoint.CheckpointError.TheVariants as refused
 use Rattle.dns_store.specs.Versions.{Shape, Opened, Kept, OpensAsLeft, moved_to}
-use Rattle.dns_versions.specs.declared.pending.PendingZone.{PendingZone}
+use Rattle.dns_versions.specs.declared.zone_versions.ZoneVersions.{ZoneVersions}
 use Rattle.dns_versions.specs.Each.{Each3}
 use Rattle.dns_versions.specs.Held.{HasVersions}
 use Rattle.dns_versions.specs.Flush as held
@@ -70,7 +70,7 @@ tip_moved None false base z is = is
 tip_moved (Some t) true base z is = is
 tip_moved (Some t) false base z is = is
 
-module _ {I S : Type 0} (keeps : S → Kept → Type 0) (zone : Zone) (b : PendingZone I S) (store : S) (z : ZoneState) (keep room : ℕ) (keep_is : keep ≡ z.setting.keep) (settled : IsSettled z) (h : HasVersions keeps zone b (kept_of z)) where
+module _ {I S : Type 0} (keeps : S → Kept → Type 0) (zone : Zone) (b : ZoneVersions I S) (store : S) (z : ZoneState) (keep room : ℕ) (keep_is : keep ≡ z.setting.keep) (settled : IsSettled z) (h : HasVersions keeps zone b (kept_of z)) where
   next_base : (d : ℕ) → IsKeptNumber (kept_of z) keep room d → IsNextBaseNumber z.setting.keep room (kept_of z) (length (kept_of z).shown - d)
   next_base d number =
       subst (λ (j : Kept). (n : ℕ) × IsKeptNumber j z.setting.keep room n × (length (kept_of z).shown - d ≡ length j.shown - n)) (sym (settled_flushed z settled))
@@ -115,6 +115,21 @@ module _ {I S : Type 0} (keeps : S → Kept → Type 0) (zone : Zone) (b : Pendi
   moved_refused refused.Closed shuts shut closes stays = ⊎_elim (λ failed. absurd cc) (λ kept. (z, (shut refl, refl), still_is kept)) stays
   moved_refused refused.OutOfMemory shuts shut closes stays = ⊎_elim (λ failed. absurd cc) (λ kept. (z, refl, still_is kept)) stays
 
+  pub moved_result : {T : Type 0} (r : Result T CheckpointError)
+      → r ≡ Err refused.Closed ↔ z.closed ≡ true
+      → ((n : ℕ) → (kept_of z).staged ≡ [] → IsKeptNumber (kept_of z) keep room n → OnOk r (keeps store (moved_to (length (kept_of z).shown - n) (kept_of z))))
+      → ((n : ℕ) → (kept_of z).staged ≡ [] → IsKeptNumber (kept_of z) keep room n → r ≡ Err refused.Device → (z.closed ≡ false) × keeps store (closed_between (length (kept_of z).shown - n) (kept_of z)))
+      → OnErr r ((r ≡ Err refused.Device) ⊎ keeps store (kept_of z))
+      → (new : ZoneState) × IsMovedBy room z r new × HasVersions keeps zone (record b { store = store }) (kept_of new)
+  moved_result (Ok v) closed moved device stays = moved_ok v (λ shut. (let other = closed.1 shut in absurd cc)) moved
+  moved_result (Err e) closed moved device stays = moved_refused e closed.1 closed.0 (λ n none is failed. (device n none is failed).1) stays
+
+-- a closed store makes no call on its device
+pub still_result : {T : Type 0} (S F : Type 0) (r : Result T CheckpointError) → r ≡ Err refused.Closed → OnErr r ((r ≡ Err refused.Device) ⊎ (S × F)) → S
+still_result S F (Ok v) is still = absurd (cc is)
+still_result {T} S F (Err e) is still =
+    ⊎_elim (λ failed. (let clash : ◌≡◌ {A = Result T CheckpointError} (Err refused.Device) (Err refused.Closed) = sym failed ∙ is in absurd (cc clash))) (λ both. both.0) still
+
 -- a zone after a flush
 zone_by : (f : Bool) (s : Setting) (l : List Record) (shown staged : List Made) (base : ℕ) (second : Option ℕ) (openings : ℕ) (closed : Bool)
     → IsSettled (flushed_zone f (record { setting = s; loaded = l; shown = shown; staged = staged; base = base; second = second; openings = openings; closed = closed }))
@@ -139,29 +154,29 @@ open_by false s l shown (m ∷ staged) base second openings false is = refl
 zone_open : (f : Bool) (z : ZoneState) → (flushed_zone f z).closed ≡ false → kept_of (flushed_zone f z) ≡ held.kept_after_flush false (kept_of z)
 zone_open f z is = ap kept_of (open_by f z.setting z.loaded z.shown z.staged z.base z.second z.openings z.closed is) ∙ kept_flushed false z
 
-pub zone_at : (fails : List Bool) (zones : List ZoneState) (place : ℕ) (z : ZoneState) → length fails ≡ length zones → slice_get zones place ≡ Some z → (f : Bool) × (slice_get (flushed_zones fails zones) place ≡ Some (flushed_zone f z))
-zone_at [] [] place z long e = absurd (cc e)
-zone_at [] (a ∷ zones) place z long e = absurd (omega (arith, long))
-zone_at (f ∷ fails) [] place z long e = absurd (cc e)
+pub zone_at : (fails : List Bool) (zones : List ZoneState) (index : ℕ) (z : ZoneState) → length fails ≡ length zones → slice_get zones index ≡ Some z → (f : Bool) × (slice_get (flushed_zones fails zones) index ≡ Some (flushed_zone f z))
+zone_at [] [] index z long e = absurd (cc e)
+zone_at [] (a ∷ zones) index z long e = absurd (omega (arith, long))
+zone_at (f ∷ fails) [] index z long e = absurd (cc e)
 zone_at (f ∷ fails) (a ∷ zones) zero z long e = (let is : a ≡ z = cc e in (f, ap (λ (x : ZoneState). Some (flushed_zone f x)) is))
-zone_at (f ∷ fails) (a ∷ zones) (suc place) z long e = zone_at fails zones place z (omega (arith, long)) e
+zone_at (f ∷ fails) (a ∷ zones) (suc index) z long e = zone_at fails zones index z (omega (arith, long)) e
 
 -- the zone of the event among all
-with_more : {S B : Type 0} (store : B → S) (moment : S → ℕ) (left_since : S → ℕ → Content → Type 0) (opens : Shape → Opened → Content → Type 0) (olds news : List B) (zones : List ZoneState) (place room : ℕ)
+with_more : {S B : Type 0} (store : B → S) (moment : S → ℕ) (left_since : S → ℕ → Content → Type 0) (opens : Shape → Opened → Content → Type 0) (olds news : List B) (zones : List ZoneState) (index room : ℕ)
     → Each3 (λ a b k. LeavesOnly moment left_since (store a) (store b) (OpensAsLeft opens k)) olds news (map kept_of zones)
-    → Each3 (λ a b k. LeavesOnly moment left_since (store a) (store b) (OpensAsEvent opens k.0 k.1)) olds news (with_room place room zones)
-with_more store moment left_since opens [] [] [] place room each = tt
+    → Each3 (λ a b k. LeavesOnly moment left_since (store a) (store b) (OpensAsEvent opens k.0 k.1)) olds news (with_room index room zones)
+with_more store moment left_since opens [] [] [] index room each = tt
 with_more store moment left_since opens (a ∷ olds) (b ∷ news) (z ∷ zones) zero room each =
     (weaker moment left_since (store a) (store b) (OpensAsLeft opens (kept_of z)) (OpensAsEvent opens (Some room) z) each.0 (λ c left. inl left), without store moment left_since opens olds news zones each.1)
-with_more store moment left_since opens (a ∷ olds) (b ∷ news) (z ∷ zones) (suc place) room each = (each.0, with_more store moment left_since opens olds news zones place room each.1)
-with_more store moment left_since opens _ _ _ place room each = absurd each
+with_more store moment left_since opens (a ∷ olds) (b ∷ news) (z ∷ zones) (suc index) room each = (each.0, with_more store moment left_since opens olds news zones index room each.1)
+with_more store moment left_since opens _ _ _ index room each = absurd each
 
 -- a step that moves no base
-moments_of : {I S : Type 0} (s : store.Ghosts S) (moved : Option (ℕ × ℕ)) (m : Machine) (olds news : List (PendingZone I S)) → AtAnyMoment s m olds news → AtAnyMomentOf s moved m olds news
-moments_of {I} {S} s None m olds news each = without (λ (b : PendingZone I S). b.store) s.moment s.left_since s.opens olds news m.zones each
-moments_of {I} {S} s (Some moved) m olds news each = with_more (λ (b : PendingZone I S). b.store) s.moment s.left_since s.opens olds news m.zones moved.0 moved.1 each
+moments_of : {I S : Type 0} (s : store.Ghosts S) (moved : Option (ℕ × ℕ)) (m : Machine) (olds news : List (ZoneVersions I S)) → AtAnyMoment s m olds news → AtAnyMomentOf s moved m olds news
+moments_of {I} {S} s None m olds news each = without (λ (b : ZoneVersions I S). b.store) s.moment s.left_since s.opens olds news m.zones each
+moments_of {I} {S} s (Some moved) m olds news each = with_more (λ (b : ZoneVersions I S). b.store) s.moment s.left_since s.opens olds news m.zones moved.0 moved.1 each
 
-pub on_any : {I S : Type 0} {i : index.Ghosts I} {s : store.Ghosts S} (m : Machine) (old new : Primary I S i s) (effects : Effects) (moved : Option (ℕ × ℕ)) (step : List Bool → machine.Effects → Machine → Type 0)
+pub on_any : {I S : Type 0} {i : zone_index.Ghosts I} {s : store.Ghosts S} (m : Machine) (old new : Primary I S i s) (effects : Effects) (moved : Option (ℕ × ℕ)) (step : List Bool → machine.Effects → Machine → Type 0)
     → Stepped m old new effects step → SteppedOn m moved old new effects step
 on_any {s = s} m old new effects moved step stepped = record {
   fails = stepped.fails;
@@ -174,24 +189,24 @@ on_any {s = s} m old new effects moved step stepped = record {
   kept = stepped.kept;
 }
 
-pub simple : {I S : Type 0} {i : index.Ghosts I} {s : store.Ghosts S} (m : Machine) (event : machine.Event) (old new : Primary I S i s) (effects : Effects)
+pub simple : {I S : Type 0} {i : zone_index.Ghosts I} {s : store.Ghosts S} (m : Machine) (event : machine.Event) (old new : Primary I S i s) (effects : Effects)
     → base_moved m event ≡ None → Stepped m old new effects (λ fails stated next. Step fails m event stated next) → SteppedBy m event old new effects
 simple m event old new effects none step = on_any m old new effects (base_moved m event) (λ fails stated next. Step fails m event stated next) step
 
-pub moved_moments : {S B : Type 0} (store : B → S) (moment : S → ℕ) (left_since : S → ℕ → Content → Type 0) (opens : Shape → Opened → Content → Type 0) (olds mids : List B) (zones : List ZoneState) (place room : ℕ) (z : ZoneState) (e new : B)
+pub moved_moments : {S B : Type 0} (store : B → S) (moment : S → ℕ) (left_since : S → ℕ → Content → Type 0) (opens : Shape → Opened → Content → Type 0) (olds mids : List B) (zones : List ZoneState) (index room : ℕ) (z : ZoneState) (e new : B)
     → Each3 (λ a b k. LeavesOnly moment left_since (store a) (store b) (OpensAsLeft opens k)) olds mids (map kept_of zones)
-    → slice_get zones place ≡ Some z
-    → ((a : B) → LeavesOnly moment left_since (store a) (store (slice_index_or mids place e)) (OpensAsLeft opens (kept_of z)) → LeavesOnly moment left_since (store a) (store new) (OpensAsEvent opens (Some room) z))
-    → Each3 (λ a b k. LeavesOnly moment left_since (store a) (store b) (OpensAsEvent opens k.0 k.1)) olds (slice_set mids place new) (with_room place room zones)
-moved_moments store moment left_since opens [] [] [] place room z e new each there go = tt
+    → slice_get zones index ≡ Some z
+    → ((a : B) → LeavesOnly moment left_since (store a) (store (slice_index_or mids index e)) (OpensAsLeft opens (kept_of z)) → LeavesOnly moment left_since (store a) (store new) (OpensAsEvent opens (Some room) z))
+    → Each3 (λ a b k. LeavesOnly moment left_since (store a) (store b) (OpensAsEvent opens k.0 k.1)) olds (slice_set mids index new) (with_room index room zones)
+moved_moments store moment left_since opens [] [] [] index room z e new each there go = tt
 moved_moments store moment left_since opens (a ∷ olds) (b ∷ mids) (y ∷ zones) zero room z e new each there go =
     let is : y ≡ z = cc there in (
       subst (λ (x : ZoneState). LeavesOnly moment left_since (store a) (store new) (OpensAsEvent opens (Some room) x)) (sym is)
           (go a (subst (λ (x : ZoneState). LeavesOnly moment left_since (store a) (store b) (OpensAsLeft opens (kept_of x))) is each.0)),
       without store moment left_since opens olds mids zones each.1,
     )
-moved_moments store moment left_since opens (a ∷ olds) (b ∷ mids) (y ∷ zones) (suc place) room z e new each there go = (each.0, moved_moments store moment left_since opens olds mids zones place room z e new each.1 there go)
-moved_moments store moment left_since opens _ _ _ place room z e new each there go = absurd each
+moved_moments store moment left_since opens (a ∷ olds) (b ∷ mids) (y ∷ zones) (suc index) room z e new each there go = (each.0, moved_moments store moment left_since opens olds mids zones index room z e new each.1 there go)
+moved_moments store moment left_since opens _ _ _ index room z e new each there go = absurd each
 
 -- one of a list
 pub got : {A : Type 0} (xs : List A) (n : ℕ) (a d : A) → slice_get xs n ≡ Some a → slice_index_or xs n d ≡ a
@@ -205,15 +220,15 @@ put (x ∷ xs) zero a b lt e = cc e
 put (x ∷ xs) (suc n) a b lt e = put xs n a b (omega arith) e
 
 -- there is no such zone
-pub not_there : {I S : Type 0} {i : index.Ghosts I} {s : store.Ghosts S} (m : Machine) (place : ℕ) (p : Primary I S i s) (effects : Effects) → slice_get m.zones place ≡ None → AtAnyMoment s m p.pending.items p.pending.items → IsKept p m → AreEffects nothing effects
-    → SteppedBy m (Checkpoint place) p p effects
-not_there {s = s} m place p effects none rest kept effects_are = record {
+pub not_there : {I S : Type 0} {i : zone_index.Ghosts I} {s : store.Ghosts S} (m : Machine) (index : ℕ) (p : Primary I S i s) (effects : Effects) → slice_get m.zones index ≡ None → AtAnyMoment s m p.pending.items p.pending.items → IsKept p m → AreEffects nothing effects
+    → SteppedBy m (Checkpoint index) p p effects
+not_there {s = s} m index p effects none rest kept effects_are = record {
   fails = [];
   failed = tt;
-  any_moment = with_more (λ (b : PendingZone _ _). b.store) s.moment s.left_since s.opens p.pending.items p.pending.items m.zones place 0 rest;
+  any_moment = with_more (λ (b : ZoneVersions _ _). b.store) s.moment s.left_since s.opens p.pending.items p.pending.items m.zones index 0 rest;
   next = m;
   stated = nothing;
-  is = inl (subst (λ (o : Option ZoneState). IsCheckpointed [] m place o nothing m) (sym none) (refl, gives_none m));
+  is = inl (subst (λ (o : Option ZoneState). IsCheckpointed [] m index o nothing m) (sym none) (refl, gives_none m));
   effects_are = effects_are;
   kept = kept;
 }
@@ -255,13 +270,13 @@ device_of (Err refused.Device) e = refl
 device_of (Err refused.Closed) e = absurd (cc e)
 device_of (Err refused.OutOfMemory) e = absurd (cc e)
 
-noted_first : (o : Option ℕ) (place : ℕ) → noted_of (first_to_fail o true place) ≡ noted_then (noted_of o) place
-noted_first None place = refl
-noted_first (Some n) place = refl
+noted_first : (o : Option ℕ) (index : ℕ) → noted_of (first_to_fail o true index) ≡ noted_then (noted_of o) index
+noted_first None index = refl
+noted_first (Some n) index = refl
 
-noted_same : (o : Option ℕ) (place : ℕ) → noted_of (first_to_fail o false place) ≡ noted_of o
-noted_same None place = refl
-noted_same (Some n) place = refl
+noted_same : (o : Option ℕ) (index : ℕ) → noted_of (first_to_fail o false index) ≡ noted_of o
+noted_same None index = refl
+noted_same (Some n) index = refl
 
 rebased_setting : (fails : Bool) (base : ℕ) (z : ZoneState) → (rebased fails base z).setting ≡ z.setting
 rebased_setting true base z = refl
@@ -277,24 +292,24 @@ setting_of room z new (Err refused.Closed) h = ap (λ (x : ZoneState). x.setting
 setting_of room z new (Err refused.OutOfMemory) h = ap (λ (x : ZoneState). x.setting) h
 
 -- the step, by what the move gave
-module _ (m : Machine) (place : ℕ) (fails : List Bool) (z zf new : ZoneState) (long : length fails ≡ length m.zones) (there : slice_get m.zones place ≡ Some z) (stands : slice_get (flushed fails m).zones place ≡ Some zf) where
+module _ (m : Machine) (index : ℕ) (fails : List Bool) (z zf new : ZoneState) (long : length fails ≡ length m.zones) (there : slice_get m.zones index ≡ Some z) (stands : slice_get (flushed fails m).zones index ≡ Some zf) where
   abbrev pub next : Machine
-  next = record (flushed fails m) { zones = slice_set (flushed fails m).zones place new }
+  next = record (flushed fails m) { zones = slice_set (flushed fails m).zones index new }
 
   abbrev pub stated : Noted → machine.Effects
   stated noted = record { sent = flush_sends fails m; accepted = None; noted = noted }
 
-  checkpointed : (room : ℕ) (moving : Bool) (noted : Noted) → IsMovedUnlessClosed moving room zf new → noted ≡ noted_of (first_to_fail (first_true fails) moving place)
-      → IsBegunOrLacks m (Some (place, room)) (either_fails moving place fails) (stated noted) next
+  checkpointed : (room : ℕ) (moving : Bool) (noted : Noted) → IsMovedUnlessClosed moving room zf new → noted ≡ noted_of (first_to_fail (first_true fails) moving index)
+      → IsBegunOrLacks m (Some (index, room)) (either_fails moving index fails) (stated noted) next
   checkpointed room moving noted moved noted_is =
       inl (fails, moving, refl, record { all = long; zone = zf; stands = stands; next = new; moved = moved; is = refl }, record { sent = refl; accepted = refl; noted = noted_is })
 
-  without_memory : (room : ℕ) → new ≡ zf → IsBegunOrLacks m (Some (place, room)) fails (stated OutOfMemory) next
+  without_memory : (room : ℕ) → new ≡ zf → IsBegunOrLacks m (Some (index, room)) fails (stated OutOfMemory) next
   without_memory room same = inr (
     refl,
     record {
       failures = long;
-      state = λ i. record (flushed fails m) { zones = (ap (λ (x : ZoneState). slice_set (flushed fails m).zones place x) same ∙ set_same (flushed fails m).zones place zf stands) i };
+      state = λ i. record (flushed fails m) { zones = (ap (λ (x : ZoneState). slice_set (flushed fails m).zones index x) same ∙ set_same (flushed fails m).zones index zf stands) i };
       sent = refl;
       accepted = refl;
       noted = refl;
@@ -302,16 +317,16 @@ module _ (m : Machine) (place : ℕ) (fails : List Bool) (z zf new : ZoneState) 
   )
 
   pub stepped : {T : Type 0} (room : ℕ) (r : Result T CheckpointError) → IsMovedBy room zf r new
-      → IsBegunOrLacks m (Some (place, room)) (either_fails (moved_by r) place fails) (stated (noted_moved (noted_of (first_true fails)) place r)) next
-  stepped room (Ok v) h = checkpointed room false (noted_of (first_true fails)) (inr h) (sym (noted_same (first_true fails) place))
-  stepped room (Err refused.Device) h = checkpointed room true (noted_then (noted_of (first_true fails)) place) (inr h) (sym (noted_first (first_true fails) place))
-  stepped room (Err refused.Closed) h = checkpointed room false (noted_of (first_true fails)) (inl (h.0, refl, h.1)) (sym (noted_same (first_true fails) place))
+      → IsBegunOrLacks m (Some (index, room)) (either_fails (moved_by r) index fails) (stated (noted_moved (noted_of (first_true fails)) index r)) next
+  stepped room (Ok v) h = checkpointed room false (noted_of (first_true fails)) (inr h) (sym (noted_same (first_true fails) index))
+  stepped room (Err refused.Device) h = checkpointed room true (noted_then (noted_of (first_true fails)) index) (inr h) (sym (noted_first (first_true fails) index))
+  stepped room (Err refused.Closed) h = checkpointed room false (noted_of (first_true fails)) (inl (h.0, refl, h.1)) (sym (noted_same (first_true fails) index))
   stepped room (Err refused.OutOfMemory) h = without_memory room h
 
 -- a checkpoint that is asked for
-pub step_of : (fails : List Bool) (m : Machine) (place : ℕ) (z : ZoneState) (effects : machine.Effects) (new : Machine) → slice_get m.zones place ≡ Some z → IsBegunOrLacks m (Some (place, 0)) fails effects new → Step fails m (Checkpoint place) effects new
-step_of fails m place z effects new there (inl begun) = inl (subst (λ (o : Option ZoneState). IsCheckpointed fails m place o effects new) (sym there) begun)
-step_of fails m place z effects new there (inr (some, l)) = inr (record {
+pub step_of : (fails : List Bool) (m : Machine) (index : ℕ) (z : ZoneState) (effects : machine.Effects) (new : Machine) → slice_get m.zones index ≡ Some z → IsBegunOrLacks m (Some (index, 0)) fails effects new → Step fails m (Checkpoint index) effects new
+step_of fails m index z effects new there (inl begun) = inl (subst (λ (o : Option ZoneState). IsCheckpointed fails m index o effects new) (sym there) begun)
+step_of fails m index z effects new there (inr (some, l)) = inr (record {
   takes = refl;
   noted = l.noted;
   accepted = l.accepted;
@@ -334,14 +349,14 @@ then_failed a b c up on rose = record { grows = omega (arith, up, on); rises = �
       | inr t ↦ (let most : 2 ^ 64 - 1 ≤ a = grind (arith, nat_tests, t) in inr (omega (arith, most, up, end)))
     ]
 
-pub failed_either : {A : Type 0} (failed : A → ℕ) (moving : Bool) (place : ℕ) (fails : List Bool) (olds mids : List A) (new : A) → FailedWhere failed fails olds mids
-    → ((a : A) → slice_get mids place ≡ Some a → IsCounted moving (failed a) (failed new)) → FailedWhere failed (either_fails moving place fails) olds (slice_set mids place new)
-failed_either failed false place [] olds mids new h moved = tt
-failed_either failed true place [] olds mids new h moved = tt
-failed_either failed moving place (f ∷ fails) [] mids new h moved = absurd h
-failed_either failed moving place (f ∷ fails) (a ∷ olds) [] new h moved = absurd h
+pub failed_either : {A : Type 0} (failed : A → ℕ) (moving : Bool) (index : ℕ) (fails : List Bool) (olds mids : List A) (new : A) → FailedWhere failed fails olds mids
+    → ((a : A) → slice_get mids index ≡ Some a → IsCounted moving (failed a) (failed new)) → FailedWhere failed (either_fails moving index fails) olds (slice_set mids index new)
+failed_either failed false index [] olds mids new h moved = tt
+failed_either failed true index [] olds mids new h moved = tt
+failed_either failed moving index (f ∷ fails) [] mids new h moved = absurd h
+failed_either failed moving index (f ∷ fails) (a ∷ olds) [] new h moved = absurd h
 failed_either failed false zero (f ∷ fails) (a ∷ olds) (b ∷ mids) new h moved = (still_counted f (failed a) (failed b) (failed new) h.0 (moved b refl).grows, h.1)
 failed_either failed true zero (f ∷ fails) (a ∷ olds) (b ∷ mids) new h moved =
     (then_failed (failed a) (failed b) (failed new) (h.0).grows (moved b refl).grows ((moved b refl).rises refl), h.1)
-failed_either failed false (suc place) (f ∷ fails) (a ∷ olds) (b ∷ mids) new h moved = (h.0, failed_either failed false place fails olds mids new h.1 moved)
-failed_either failed true (suc place) (f ∷ fails) (a ∷ olds) (b ∷ mids) new h moved = (h.0, failed_either failed true place fails olds mids new h.1 moved)
+failed_either failed false (suc index) (f ∷ fails) (a ∷ olds) (b ∷ mids) new h moved = (h.0, failed_either failed false index fails olds mids new h.1 moved)
+failed_either failed true (suc index) (f ∷ fails) (a ∷ olds) (b ∷ mids) new h moved = (h.0, failed_either failed true index fails olds mids new h.1 moved)

@@ -12,7 +12,7 @@ use Rattle.dns_store.specs.Opening.{IsNotReopened, MayOpen, OpensAsPossible, Sto
 use Rattle.dns_store.specs.declared.kept_store.KeptStore.{KeptStore}
 use Rattle.dns_store.specs.declared.root.OpenError.{OpenError}
 use Rattle.dns_store.specs.declared.root.OpenError.TheVariants.{OutOfMemory}
-use Rattle.dns_versions.specs.declared.pending.PendingZone.{PendingZone}
+use Rattle.dns_versions.specs.declared.zone_versions.ZoneVersions.{ZoneVersions}
 use Rattle.dns_versions.specs.Each.{Each2}
 use Rattle.dns_versions.specs.Held.{HasVersions}
 use Rattle.dns_primary.specs.declared.primary.ZoneSpec.{ZoneSpec}
@@ -35,16 +35,16 @@ drop_more [] (suc i) = refl
 drop_more (x ∷ xs) (suc i) = drop_more xs i
 
 module _ {D I : Type 0} {g : Ghosts D} where
-  pub opened_none : (apexes : List Labels) (settings : List ZoneSpec) (devices : List D) (zones : List Zone) (pending : List (PendingZone I (KeptStore D I g))) → zones ≡ [] → pending ≡ [] → AreOpened zero apexes settings devices zones pending
+  pub opened_none : (apexes : List Labels) (settings : List ZoneSpec) (devices : List D) (zones : List Zone) (pending : List (ZoneVersions I (KeptStore D I g))) → zones ≡ [] → pending ≡ [] → AreOpened zero apexes settings devices zones pending
   opened_none apexes settings devices zones pending e f =
-      subst (λ (l : List Zone). AreOpened {D = D} {I = I} {g = g} zero apexes settings devices l pending) (sym e) (subst (λ (l : List (PendingZone I (KeptStore D I g))). AreOpened {D = D} {I = I} {g = g} zero apexes settings devices [] l) (sym f) tt)
+      subst (λ (l : List Zone). AreOpened {D = D} {I = I} {g = g} zero apexes settings devices l pending) (sym e) (subst (λ (l : List (ZoneVersions I (KeptStore D I g))). AreOpened {D = D} {I = I} {g = g} zero apexes settings devices [] l) (sym f) tt)
 
-  pub opened_within : (i : ℕ) (apexes : List Labels) (settings : List ZoneSpec) (devices : List D) (zones : List Zone) (pending : List (PendingZone I (KeptStore D I g))) → AreOpened i apexes settings devices zones pending → i ≤ length settings
+  pub opened_within : (i : ℕ) (apexes : List Labels) (settings : List ZoneSpec) (devices : List D) (zones : List Zone) (pending : List (ZoneVersions I (KeptStore D I g))) → AreOpened i apexes settings devices zones pending → i ≤ length settings
   opened_within zero apexes settings devices zones pending each = omega arith
   opened_within (suc i) (x ∷ apexes) (y ∷ settings) (v ∷ devices) (w ∷ zones) (c ∷ pending) each = (let rest = opened_within i apexes settings devices zones pending each.1 in omega (arith, rest))
   opened_within _ _ _ _ _ _ each = absurd each
 
-  pub opened_many : (i : ℕ) (apexes : List Labels) (settings : List ZoneSpec) (devices : List D) (zones : List Zone) (pending : List (PendingZone I (KeptStore D I g))) → AreOpened i apexes settings devices zones pending → (length zones ≡ i) × (length pending ≡ i)
+  pub opened_many : (i : ℕ) (apexes : List Labels) (settings : List ZoneSpec) (devices : List D) (zones : List Zone) (pending : List (ZoneVersions I (KeptStore D I g))) → AreOpened i apexes settings devices zones pending → (length zones ≡ i) × (length pending ≡ i)
   opened_many zero apexes settings devices [] [] each = (refl, refl)
   opened_many zero apexes settings devices [] (c ∷ pending) each = absurd each
   opened_many zero apexes settings devices (w ∷ zones) pending each = absurd each
@@ -53,7 +53,7 @@ module _ {D I : Type 0} {g : Ghosts D} where
   opened_many _ _ _ _ _ _ each = absurd each
 
   -- one more was opened
-  pub opened_more : (i : ℕ) (apexes : List Labels) (settings : List ZoneSpec) (devices : List D) (zones : List Zone) (pending : List (PendingZone I (KeptStore D I g))) (a : Labels) (s : ZoneSpec) (d : D) (z : Zone) (b : PendingZone I (KeptStore D I g))
+  pub opened_more : (i : ℕ) (apexes : List Labels) (settings : List ZoneSpec) (devices : List D) (zones : List Zone) (pending : List (ZoneVersions I (KeptStore D I g))) (a : Labels) (s : ZoneSpec) (d : D) (z : Zone) (b : ZoneVersions I (KeptStore D I g))
       → AreOpened i apexes settings devices zones pending
       → i < length apexes → i < length settings → i < length devices
       → IsOpened (slice_index_or apexes i a) (slice_index_or settings i s) (slice_index_or devices i d) z b
@@ -69,7 +69,7 @@ module _ {D I : Type 0} {g : Ghosts D} where
   opened_more _ _ _ _ _ _ a s d z b each l m n is = absurd each
 
   -- one was not
-  pub handed_back : (error : OpenError) (i : ℕ) (apexes : List Labels) (settings : List ZoneSpec) (devices : List D) (zones : List Zone) (pending : List (PendingZone I (KeptStore D I g))) (a : Labels) (s : ZoneSpec) (d e : D)
+  pub handed_back : (error : OpenError) (i : ℕ) (apexes : List Labels) (settings : List ZoneSpec) (devices : List D) (zones : List Zone) (pending : List (ZoneVersions I (KeptStore D I g))) (a : Labels) (s : ZoneSpec) (d e : D)
       → AreOpened i apexes settings devices zones pending
       → i < length apexes → i < length settings → i < length devices
       → IsNotOpened g (slice_index_or apexes i a) (slice_index_or settings i s) error (slice_index_or devices i d) e
@@ -192,12 +192,12 @@ module _ {D : Type 0} {g : Ghosts D} (tries : ℕ) (making : ℕ → Type 0) (z 
     closed = r.opened i;
   }
 
-  pub record IsReopened {I : Type 0} (zone : Zone) (b : PendingZone I (KeptStore D I g)) : Type 0 where
+  pub record IsReopened {I : Type 0} (zone : Zone) (b : ZoneVersions I (KeptStore D I g)) : Type 0 where
     pub state : ZoneState
     pub recovered : IsRecovered 1 (suc tries) making z state
     pub held : HasVersions (λ x k. keeps x k) zone b (kept_of state)
 
-  pub reopened : {I : Type 0} (zone : Zone) (b : PendingZone I (KeptStore D I g)) → IsOpened a s d zone b → IsReopened zone b
+  pub reopened : {I : Type 0} (zone : Zone) (b : ZoneVersions I (KeptStore D I g)) → IsOpened a s d zone b → IsReopened zone b
   reopened {I} zone b opened =
       let takes = opened.takes is.honest is.range may_open in
       let there = is.leaves takes.0 takes.1 in
@@ -226,58 +226,58 @@ set_recovered least most making s z w set r = record {
 -- the settings of zones that are opened again
 module _ {D : Type 0} (g : Ghosts D) (m : Machine) (event : Event) (tries : ℕ) where
   -- with the settings that the zones had
-  pub all_set_again : (place : ℕ) (olds : List ZoneState) (apexes : List Labels) (settings : List ZoneSpec) (devices : List D) (news : List ZoneState)
-      → AreRecoverable g tries m event place olds apexes settings devices → AreRecovered 1 (suc tries) m event place olds news → Each2 IsSet settings news
-  all_set_again place [] [] [] [] [] is r = tt
-  all_set_again place [] [] [] [] (w ∷ news) is r = absurd r
-  all_set_again place (z ∷ olds) (a ∷ apexes) (s ∷ settings) (d ∷ devices) [] is r = absurd r
-  all_set_again place (z ∷ olds) (a ∷ apexes) (s ∷ settings) (d ∷ devices) (w ∷ news) is r =
-      (set_recovered 1 (suc tries) (IsMaking m event place z) s z w (is.0).set r.0, all_set_again (suc place) olds apexes settings devices news is.1 r.1)
-  all_set_again place _ _ _ _ news is r = absurd is
+  pub all_set_again : (index : ℕ) (olds : List ZoneState) (apexes : List Labels) (settings : List ZoneSpec) (devices : List D) (news : List ZoneState)
+      → AreRecoverable g tries m event index olds apexes settings devices → AreRecovered 1 (suc tries) m event index olds news → Each2 IsSet settings news
+  all_set_again index [] [] [] [] [] is r = tt
+  all_set_again index [] [] [] [] (w ∷ news) is r = absurd r
+  all_set_again index (z ∷ olds) (a ∷ apexes) (s ∷ settings) (d ∷ devices) [] is r = absurd r
+  all_set_again index (z ∷ olds) (a ∷ apexes) (s ∷ settings) (d ∷ devices) (w ∷ news) is r =
+      (set_recovered 1 (suc tries) (IsMaking m event index z) s z w (is.0).set r.0, all_set_again (suc index) olds apexes settings devices news is.1 r.1)
+  all_set_again index _ _ _ _ news is r = absurd is
 
-  many_recovered : (place : ℕ) (olds : List ZoneState) (apexes : List Labels) (settings : List ZoneSpec) (devices : List D) (news : List ZoneState)
-      → (set_as : ZoneSpec → ZoneState → Type 0) → AreRecoverableAs set_as g tries m event place olds apexes settings devices → AreRecovered 1 (suc tries) m event place olds news → length settings ≡ length news
-  many_recovered place [] [] [] [] [] set_as is r = refl
-  many_recovered place [] [] [] [] (w ∷ news) set_as is r = absurd r
-  many_recovered place (z ∷ olds) (a ∷ apexes) (s ∷ settings) (d ∷ devices) [] set_as is r = absurd r
-  many_recovered place (z ∷ olds) (a ∷ apexes) (s ∷ settings) (d ∷ devices) (w ∷ news) set_as is r = ap suc (many_recovered (suc place) olds apexes settings devices news set_as is.1 r.1)
-  many_recovered place _ _ _ _ news set_as is r = absurd is
+  many_recovered : (index : ℕ) (olds : List ZoneState) (apexes : List Labels) (settings : List ZoneSpec) (devices : List D) (news : List ZoneState)
+      → (set_as : ZoneSpec → ZoneState → Type 0) → AreRecoverableAs set_as g tries m event index olds apexes settings devices → AreRecovered 1 (suc tries) m event index olds news → length settings ≡ length news
+  many_recovered index [] [] [] [] [] set_as is r = refl
+  many_recovered index [] [] [] [] (w ∷ news) set_as is r = absurd r
+  many_recovered index (z ∷ olds) (a ∷ apexes) (s ∷ settings) (d ∷ devices) [] set_as is r = absurd r
+  many_recovered index (z ∷ olds) (a ∷ apexes) (s ∷ settings) (d ∷ devices) (w ∷ news) set_as is r = ap suc (many_recovered (suc index) olds apexes settings devices news set_as is.1 r.1)
+  many_recovered index _ _ _ _ news set_as is r = absurd is
 
 -- all zones of a machine that stopped within an event
 module _ {D I : Type 0} {g : Ghosts D} (m : Machine) (event : Event) (tries : ℕ) where
-  pub record AreReopened (place : ℕ) (olds : List ZoneState) (settings : List ZoneSpec) (devices : List D) (zones : List Zone) (pending : List (PendingZone I (KeptStore D I g))) : Type 0 where
+  pub record AreReopened (index : ℕ) (olds : List ZoneState) (settings : List ZoneSpec) (devices : List D) (zones : List Zone) (pending : List (ZoneVersions I (KeptStore D I g))) : Type 0 where
     pub states : List ZoneState
-    pub recovered : AreRecovered 1 (suc tries) m event place olds states
+    pub recovered : AreRecovered 1 (suc tries) m event index olds states
     pub held : HaveVersions (λ (x : KeptStore D I g) k. keeps x k) zones pending states
-    pub left : LeaveRecovered g (suc tries) m event place olds devices (map (λ (b : PendingZone I (KeptStore D I g)). device_of_pending b) pending)
+    pub left : LeaveRecovered g (suc tries) m event index olds devices (map (λ (b : ZoneVersions I (KeptStore D I g)). device_of_pending b) pending)
 
-  pub all_reopened : (place : ℕ) (olds : List ZoneState) (apexes : List Labels) (settings : List ZoneSpec) (devices : List D) (zones : List Zone) (pending : List (PendingZone I (KeptStore D I g)))
-      → (set_as : ZoneSpec → ZoneState → Type 0) → AreRecoverableAs set_as g tries m event place olds apexes settings devices → AreOpened (length settings) apexes settings devices zones pending → AreReopened place olds settings devices zones pending
-  all_reopened place [] [] [] [] [] [] set_as is each = record { states = []; recovered = tt; held = tt; left = tt }
-  all_reopened place [] [] [] [] [] (b ∷ pending) set_as is each = absurd each
-  all_reopened place [] [] [] [] (y ∷ zones) pending set_as is each = absurd each
-  all_reopened place (z ∷ olds) (a ∷ apexes) (s ∷ settings) (d ∷ devices) [] pending set_as is each = absurd each
-  all_reopened place (z ∷ olds) (a ∷ apexes) (s ∷ settings) (d ∷ devices) (y ∷ zones) [] set_as is each = absurd each
-  all_reopened place (z ∷ olds) (a ∷ apexes) (s ∷ settings) (d ∷ devices) (y ∷ zones) (b ∷ pending) set_as is each =
-      let making = IsMaking m event place z in
+  pub all_reopened : (index : ℕ) (olds : List ZoneState) (apexes : List Labels) (settings : List ZoneSpec) (devices : List D) (zones : List Zone) (pending : List (ZoneVersions I (KeptStore D I g)))
+      → (set_as : ZoneSpec → ZoneState → Type 0) → AreRecoverableAs set_as g tries m event index olds apexes settings devices → AreOpened (length settings) apexes settings devices zones pending → AreReopened index olds settings devices zones pending
+  all_reopened index [] [] [] [] [] [] set_as is each = record { states = []; recovered = tt; held = tt; left = tt }
+  all_reopened index [] [] [] [] [] (b ∷ pending) set_as is each = absurd each
+  all_reopened index [] [] [] [] (y ∷ zones) pending set_as is each = absurd each
+  all_reopened index (z ∷ olds) (a ∷ apexes) (s ∷ settings) (d ∷ devices) [] pending set_as is each = absurd each
+  all_reopened index (z ∷ olds) (a ∷ apexes) (s ∷ settings) (d ∷ devices) (y ∷ zones) [] set_as is each = absurd each
+  all_reopened index (z ∷ olds) (a ∷ apexes) (s ∷ settings) (d ∷ devices) (y ∷ zones) (b ∷ pending) set_as is each =
+      let making = IsMaking m event index z in
       let one = reopened tries making z a s d is.0 y b each.0 in
-      let rest = all_reopened (suc place) olds apexes settings devices zones pending set_as is.1 each.1 in
+      let rest = all_reopened (suc index) olds apexes settings devices zones pending set_as is.1 each.1 in
       record {
         states = one.state ∷ rest.states;
         recovered = (one.recovered, rest.recovered);
         held = (one.held, rest.held);
         left = (leaves_recovered tries making z a s d is.0 (device_of_pending b) each.0.leaves, rest.left);
       }
-  all_reopened place _ _ _ _ zones pending set_as is each = absurd is
+  all_reopened index _ _ _ _ zones pending set_as is each = absurd is
 
   -- ... or with others
-  pub record AreSetUp (settings : List ZoneSpec) (states : List ZoneState) (zones : List Zone) (pending : List (PendingZone I (KeptStore D I g))) : Type 0 where
+  pub record AreSetUp (settings : List ZoneSpec) (states : List ZoneState) (zones : List Zone) (pending : List (ZoneVersions I (KeptStore D I g))) : Type 0 where
     pub news : List ZoneState
     pub anew : Each2 IsSetAnew states news
     pub held : HaveVersions (λ (x : KeptStore D I g) k. keeps x k) zones pending news
     pub set : Each2 IsSet settings news
 
-  all_set_up : (settings : List ZoneSpec) (states : List ZoneState) (zones : List Zone) (pending : List (PendingZone I (KeptStore D I g))) → length settings ≡ length states
+  all_set_up : (settings : List ZoneSpec) (states : List ZoneState) (zones : List Zone) (pending : List (ZoneVersions I (KeptStore D I g))) → length settings ≡ length states
       → HaveVersions (λ (x : KeptStore D I g) k. keeps x k) zones pending states → AreSetUp settings states zones pending
   all_set_up [] [] [] [] many h = record { news = []; anew = tt; held = tt; set = tt }
   all_set_up (s ∷ settings) (w ∷ states) (y ∷ zones) (b ∷ pending) many h =
@@ -297,10 +297,10 @@ module _ {D I : Type 0} {g : Ghosts D} (m : Machine) (event : Event) (tries : �
   all_set_up (s ∷ settings) (w ∷ states) [] (b ∷ pending) many h = absurd h
   all_set_up (s ∷ settings) (w ∷ states) (y ∷ zones) [] many h = absurd h
 
-  pub set_up_anew : (place : ℕ) (olds : List ZoneState) (apexes : List Labels) (settings : List ZoneSpec) (devices : List D) (zones : List Zone) (pending : List (PendingZone I (KeptStore D I g)))
-      → (set_as : ZoneSpec → ZoneState → Type 0) → AreRecoverableAs set_as g tries m event place olds apexes settings devices → (all : AreReopened place olds settings devices zones pending) → AreSetUp settings all.states zones pending
-  set_up_anew place olds apexes settings devices zones pending set_as is all =
-      all_set_up settings all.states zones pending (many_recovered g m event tries place olds apexes settings devices all.states set_as is all.recovered) all.held
+  pub set_up_anew : (index : ℕ) (olds : List ZoneState) (apexes : List Labels) (settings : List ZoneSpec) (devices : List D) (zones : List Zone) (pending : List (ZoneVersions I (KeptStore D I g)))
+      → (set_as : ZoneSpec → ZoneState → Type 0) → AreRecoverableAs set_as g tries m event index olds apexes settings devices → (all : AreReopened index olds settings devices zones pending) → AreSetUp settings all.states zones pending
+  set_up_anew index olds apexes settings devices zones pending set_as is all =
+      all_set_up settings all.states zones pending (many_recovered g m event tries index olds apexes settings devices all.states set_as is all.recovered) all.held
 
 -- the devices that are handed back
 module _ {D : Type 0} (set_as : ZoneSpec → ZoneState → Type 0) (g : Ghosts D) (m : Machine) (event : Event) (tries : ℕ)
@@ -313,46 +313,46 @@ module _ {D : Type 0} (set_as : ZoneSpec → ZoneState → Type 0) (g : Ghosts D
       any_moment = λ honest range. started g.moment g.left_since d (OpensAsPossible g (shape_of a s) d) (λ c left. (c, only_now d c honest left, λ o is. inl is));
     }
 
-    same_left : (place : ℕ) (olds : List ZoneState) (apexes : List Labels) (settings : List ZoneSpec) (devices : List D) → AreRecoverableAs set_as g tries m event place olds apexes settings devices → LeaveRecovered g (suc tries) m event place olds devices devices
-    same_left place [] [] [] [] is = tt
-    same_left place (z ∷ olds) (a ∷ apexes) (s ∷ settings) (d ∷ devices) is =
-        (leaves_recovered tries (IsMaking m event place z) z a s d is.0 d (stays_itself a s d), same_left (suc place) olds apexes settings devices is.1)
-    same_left place _ _ _ _ is = absurd is
+    same_left : (index : ℕ) (olds : List ZoneState) (apexes : List Labels) (settings : List ZoneSpec) (devices : List D) → AreRecoverableAs set_as g tries m event index olds apexes settings devices → LeaveRecovered g (suc tries) m event index olds devices devices
+    same_left index [] [] [] [] is = tt
+    same_left index (z ∷ olds) (a ∷ apexes) (s ∷ settings) (d ∷ devices) is =
+        (leaves_recovered tries (IsMaking m event index z) z a s d is.0 d (stays_itself a s d), same_left (suc index) olds apexes settings devices is.1)
+    same_left index _ _ _ _ is = absurd is
 
-    all_tried : (place : ℕ) (olds : List ZoneState) (apexes : List Labels) (settings : List ZoneSpec) (devices : List D) → AreRecoverableAs set_as g tries m event place olds apexes settings devices → AreRecoverableAs set_as g (suc tries) m event place olds apexes settings devices
-    all_tried place [] [] [] [] is = tt
-    all_tried place (z ∷ olds) (a ∷ apexes) (s ∷ settings) (d ∷ devices) is =
-        (tried tries (IsMaking m event place z) z a s d is.0, all_tried (suc place) olds apexes settings devices is.1)
-    all_tried place _ _ _ _ is = absurd is
+    all_tried : (index : ℕ) (olds : List ZoneState) (apexes : List Labels) (settings : List ZoneSpec) (devices : List D) → AreRecoverableAs set_as g tries m event index olds apexes settings devices → AreRecoverableAs set_as g (suc tries) m event index olds apexes settings devices
+    all_tried index [] [] [] [] is = tt
+    all_tried index (z ∷ olds) (a ∷ apexes) (s ∷ settings) (d ∷ devices) is =
+        (tried tries (IsMaking m event index z) z a s d is.0, all_tried (suc index) olds apexes settings devices is.1)
+    all_tried index _ _ _ _ is = absurd is
 
-    pub record AreHeld (error : OpenError) (n place : ℕ) (olds : List ZoneState) (apexes : List Labels) (settings : List ZoneSpec) (devices back : List D) : Type 0 where
-      pub recoverable : AreRecoverableAs set_as g (suc tries) m event place olds apexes settings back
+    pub record AreHeld (error : OpenError) (n index : ℕ) (olds : List ZoneState) (apexes : List Labels) (settings : List ZoneSpec) (devices back : List D) : Type 0 where
+      pub recoverable : AreRecoverableAs set_as g (suc tries) m event index olds apexes settings back
       pub stopped : IsRecoveryStopped tries error n olds
-      pub left : LeaveRecovered g (suc tries) m event place olds devices back
+      pub left : LeaveRecovered g (suc tries) m event index olds devices back
 
-    all_back : (error : OpenError) (n place : ℕ) (olds : List ZoneState) (apexes : List Labels) (settings : List ZoneSpec) (devices back : List D)
-        → AreRecoverableAs set_as g tries m event place olds apexes settings devices → AreHandedBack g error n apexes settings devices back → AreHeld error n place olds apexes settings devices back
-    all_back error zero place (z ∷ olds) (a ∷ apexes) (s ∷ settings) (d ∷ devices) (e ∷ back) is h =
-        let making = IsMaking m event place z in
+    all_back : (error : OpenError) (n index : ℕ) (olds : List ZoneState) (apexes : List Labels) (settings : List ZoneSpec) (devices back : List D)
+        → AreRecoverableAs set_as g tries m event index olds apexes settings devices → AreHandedBack g error n apexes settings devices back → AreHeld error n index olds apexes settings devices back
+    all_back error zero index (z ∷ olds) (a ∷ apexes) (s ∷ settings) (d ∷ devices) (e ∷ back) is h =
+        let making = IsMaking m event index z in
         record {
           recoverable = (
             stays_recoverable tries making z a s d is.0 counts_now e h.0.leaves,
-            subst (λ (l : List D). AreRecoverableAs set_as g (suc tries) m event (suc place) olds apexes settings l) (sym h.1) (all_tried (suc place) olds apexes settings devices is.1),
+            subst (λ (l : List D). AreRecoverableAs set_as g (suc tries) m event (suc index) olds apexes settings l) (sym h.1) (all_tried (suc index) olds apexes settings devices is.1),
           );
           stopped = stopped_by tries making z a s d is.0 error (h.0.stopped is.0.honest is.0.range (may_open tries making z a s d is.0));
-          left = (leaves_recovered tries making z a s d is.0 e h.0.leaves, subst (λ (l : List D). LeaveRecovered g (suc tries) m event (suc place) olds devices l) (sym h.1) (same_left (suc place) olds apexes settings devices is.1));
+          left = (leaves_recovered tries making z a s d is.0 e h.0.leaves, subst (λ (l : List D). LeaveRecovered g (suc tries) m event (suc index) olds devices l) (sym h.1) (same_left (suc index) olds apexes settings devices is.1));
         }
-    all_back error (suc n) place (z ∷ olds) (a ∷ apexes) (s ∷ settings) (d ∷ devices) (e ∷ back) is h =
-        let making = IsMaking m event place z in
-        let rest = all_back error n (suc place) olds apexes settings devices back is.1 h.2 in
+    all_back error (suc n) index (z ∷ olds) (a ∷ apexes) (s ∷ settings) (d ∷ devices) (e ∷ back) is h =
+        let making = IsMaking m event index z in
+        let rest = all_back error n (suc index) olds apexes settings devices back is.1 h.2 in
         record {
           recoverable = (stays_recoverable tries making z a s d is.0 counts_now e h.0, rest.recoverable);
           stopped = rest.stopped;
           left = (leaves_recovered tries making z a s d is.0 e h.0, rest.left);
         }
-    all_back error n place _ (a ∷ apexes) (s ∷ settings) (d ∷ devices) [] is h = absurd h
-    all_back error n place [] [] [] [] back is h = absurd h
-    all_back error n place _ _ _ _ back is h = absurd is
+    all_back error n index _ (a ∷ apexes) (s ∷ settings) (d ∷ devices) [] is h = absurd h
+    all_back error n index [] [] [] [] back is h = absurd h
+    all_back error n index _ _ _ _ back is h = absurd is
 
     for_memory : (error : OpenError) (n : ℕ) (olds : List ZoneState) → error ≡ OutOfMemory → IsRecoveryStopped tries error n olds
     for_memory error n [] e = e

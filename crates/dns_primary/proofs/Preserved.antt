@@ -34,35 +34,35 @@ has true e = refl
 has false e = absurd cc
 
 -- an update
-accepted_preserves : (m : Machine) (a : Asked) (place : ℕ) (z : ZoneState) (records : List Record) → IsSound m → slice_get m.zones place ≡ Some z
+accepted_preserves : (m : Machine) (a : Asked) (index : ℕ) (z : ZoneState) (records : List Record) → IsSound m → slice_get m.zones index ≡ Some z
     → verdict (newest_zone (kept_of z)) a.message.answers a.message.authorities ≡ Leaves records
-    → Carries m (accepted_in m a place z records)
-accepted_preserves m a place z records s e j =
-    tested (Carries m) (has_room (kept_of z) records) (stages m a place z records, []) (waits m a place rcode_servfail (newest_serial z) (updates_of z), [])
-    (λ has_it. stage_preserves m a place z records s e j has_it)
-    (λ _. wait_preserves m a place rcode_servfail z s e)
+    → Carries m (accepted_in m a index z records)
+accepted_preserves m a index z records s e j =
+    tested (Carries m) (has_room (kept_of z) records) (stages m a index z records, []) (waits m a index rcode_servfail (newest_serial z) (updates_of z), [])
+    (λ has_it. stage_preserves m a index z records s e j has_it)
+    (λ _. wait_preserves m a index rcode_servfail z s e)
 
-judged_preserves : (m : Machine) (a : Asked) (place : ℕ) (z : ZoneState) (v : Verdict) → IsSound m → slice_get m.zones place ≡ Some z
-    → verdict (newest_zone (kept_of z)) a.message.answers a.message.authorities ≡ v → Carries m (judged_in m a place z v)
-judged_preserves m a place z (Refuses rcode) s e j = wait_preserves m a place (number_of_rcode rcode) z s e
-judged_preserves m a place z Keeps s e j = wait_preserves m a place 0 z s e
-judged_preserves m a place z (Leaves records) s e j = accepted_preserves m a place z records s e j
+judged_preserves : (m : Machine) (a : Asked) (index : ℕ) (z : ZoneState) (v : Verdict) → IsSound m → slice_get m.zones index ≡ Some z
+    → verdict (newest_zone (kept_of z)) a.message.answers a.message.authorities ≡ v → Carries m (judged_in m a index z v)
+judged_preserves m a index z (Refuses rcode) s e j = wait_preserves m a index (number_of_rcode rcode) z s e
+judged_preserves m a index z Keeps s e j = wait_preserves m a index 0 z s e
+judged_preserves m a index z (Leaves records) s e j = accepted_preserves m a index z records s e j
 
 -- a zone that is admitted is there
 abbrev pub StandsIn : List ZoneState → Admission → Type 0
 StandsIn zones (Rejects rcode) = Unit {0}
-StandsIn zones (Admits place z) = slice_get zones place ≡ Some z
+StandsIn zones (Admits index z) = slice_get zones index ≡ Some z
 
-in_stands : (zones : List ZoneState) (a : Asked) (place : ℕ) (found : Option ZoneState) → slice_get zones place ≡ found → StandsIn zones (admission_in a.address place found)
-in_stands zones a place None e = tt
-in_stands zones a place (Some z) e =
-    tested (StandsIn zones) (not (z.setting.may_update a.address)) (Rejects rcode_refused) (if z.closed then Rejects rcode_servfail else Admits place z)
+in_stands : (zones : List ZoneState) (a : Asked) (index : ℕ) (found : Option ZoneState) → slice_get zones index ≡ found → StandsIn zones (admission_in a.address index found)
+in_stands zones a index None e = tt
+in_stands zones a index (Some z) e =
+    tested (StandsIn zones) (not (z.setting.may_update a.address)) (Rejects rcode_refused) (if z.closed then Rejects rcode_servfail else Admits index z)
     (λ _. tt)
-    (λ _. tested (StandsIn zones) z.closed (Rejects rcode_servfail) (Admits place z) (λ _. tt) (λ _. e))
+    (λ _. tested (StandsIn zones) z.closed (Rejects rcode_servfail) (Admits index z) (λ _. tt) (λ _. e))
 
-at_stands : (zones : List ZoneState) (a : Asked) (place : Option ℕ) → StandsIn zones (admission_at zones a.address place)
+at_stands : (zones : List ZoneState) (a : Asked) (index : Option ℕ) → StandsIn zones (admission_at zones a.address index)
 at_stands zones a None = tt
-at_stands zones a (Some place) = in_stands zones a place (slice_get zones place) refl
+at_stands zones a (Some index) = in_stands zones a index (slice_get zones index) refl
 
 pub admission_stands : (zones : List ZoneState) (a : Asked) → StandsIn zones (admission zones a)
 admission_stands zones a =
@@ -75,8 +75,8 @@ admission_stands zones a =
 
 admitted_preserves : (m : Machine) (a : Asked) (d : Admission) → IsSound m → StandsIn m.zones d → Carries m (admitted m a d)
 admitted_preserves m a (Rejects rcode) s e = with_reply m m [] a.to (text (bare_reply a.message.header rcode)) (stays m s)
-admitted_preserves m a (Admits place z) s e =
-    judged_preserves m a place z (verdict (newest_zone (kept_of z)) a.message.answers a.message.authorities) s e refl
+admitted_preserves m a (Admits index z) s e =
+    judged_preserves m a index z (verdict (newest_zone (kept_of z)) a.message.answers a.message.authorities) s e refl
 
 place_preserves : (fails : List Bool) (m : Machine) → AreFailures (is_full m) m fails → IsSound m → Carries m (made_place fails m)
 place_preserves fails m f s =
@@ -116,12 +116,12 @@ same_lasts z w s = record { shape = ap (λ (x : Setting). x.shape) s.setting; lo
 pub same_updates : (z w : ZoneState) → IsSameBut z w → Same z w
 same_updates z w s = record { setting = s.setting; loaded = s.loaded; updates = λ i. s.shown i ++ s.staged i; openings = s.openings }
 
-moved_preserves : (fails : List Bool) (old : Machine) (place : ℕ) (z w : ZoneState) → IsSound (flushed fails old) → slice_get (flushed fails old).zones place ≡ Some z → IsSameBut z w
-    → Preserves (flushed fails old) (record (flushed fails old) { zones = slice_set (flushed fails old).zones place w }) []
-moved_preserves fails old place z w s e same = record {
-  lasts = pair_set Lasts lasts_same (flushed fails old).zones place z w e (same_lasts z w same);
+moved_preserves : (fails : List Bool) (old : Machine) (index : ℕ) (z w : ZoneState) → IsSound (flushed fails old) → slice_get (flushed fails old).zones index ≡ Some z → IsSameBut z w
+    → Preserves (flushed fails old) (record (flushed fails old) { zones = slice_set (flushed fails old).zones index w }) []
+moved_preserves fails old index z w s e same = record {
+  lasts = pair_set Lasts lasts_same (flushed fails old).zones index z w e (same_lasts z w same);
   sound = record {
-    zones = all_set HasHistory (flushed fails old).zones place w s.zones (same_history z w (same_updates z w same) (all_found HasHistory (flushed fails old).zones place z s.zones e));
+    zones = all_set HasHistory (flushed fails old).zones index w s.zones (same_history z w (same_updates z w same) (all_found HasHistory (flushed fails old).zones index z s.zones e));
     waiting = tt;
   };
   good = tt;
@@ -191,9 +191,9 @@ arrived_goes : (fails : List Bool) (old : Machine) (number : ℕ) (peer : Option
 arrived_goes fails old number None octets effects new s g = given old effects new old [] [] g.1 (stays old s)
 arrived_goes fails old number (Some peer) octets effects new s g = served_goes fails old (to.Connection number) peer _ effects new s g
 
-checkpointed_goes : (fails : List Bool) (old : Machine) (place : ℕ) (o : Option ZoneState) (effects : Effects) (new : Machine) → IsSound old → IsCheckpointed fails old place o effects new → Preserves old new effects.sent
-checkpointed_goes fails old place None effects new s g = given old effects new old [] [] g.1 (stays old s)
-checkpointed_goes fails old place (Some z) effects new s g = begun_preserves fails old (Some (place, 0)) effects new s g
+checkpointed_goes : (fails : List Bool) (old : Machine) (index : ℕ) (o : Option ZoneState) (effects : Effects) (new : Machine) → IsSound old → IsCheckpointed fails old index o effects new → Preserves old new effects.sent
+checkpointed_goes fails old index None effects new s g = given old effects new old [] [] g.1 (stays old s)
+checkpointed_goes fails old index (Some z) effects new s g = begun_preserves fails old (Some (index, 0)) effects new s g
 
 event_goes : (fails : List Bool) (old : Machine) (event : Event) (effects : Effects) (new : Machine) → IsSound old → Goes fails old event effects new → Preserves old new effects.sent
 event_goes fails old (Datagram peer octets) effects new s g = served_goes fails old (to.Address peer) peer _ effects new s g
@@ -203,7 +203,7 @@ event_goes fails old (Connect peer) effects new s g = elim (g.1) [
 ]
 event_goes fails old (Arrives number octets) effects new s g = arrived_goes fails old number (peer_at number old.connections) octets effects new s g
 event_goes fails old Flush effects new s g = given old effects new (flushed fails old) (flush_sends fails old) fails g.1 (flush_preserves fails old g.0 s)
-event_goes fails old (Checkpoint place) effects new s g = checkpointed_goes fails old place (slice_get old.zones place) effects new s g
+event_goes fails old (Checkpoint index) effects new s g = checkpointed_goes fails old index (slice_get old.zones index) effects new s g
 event_goes fails old (Pump number) effects new s g = quiet_preserves old new effects.sent s (pumped_quiet old number (sending_at number old.connections) effects.sent new g.1)
 event_goes fails old (Closed number) effects new s g = given old effects new (closed number old) [] [] g.1 (close_preserves number old s)
 
@@ -221,7 +221,7 @@ failures_true zones m (Datagram peer octets) = failure_true zones (to.Address pe
 failures_true zones m (Arrives number octets) = failure_on_true zones number (peer_at number m.connections) octets
 failures_true zones m (Connect peer) = tt
 failures_true zones m Flush = tt
-failures_true zones m (Checkpoint place) = tt
+failures_true zones m (Checkpoint index) = tt
 failures_true zones m (Pump number) = tt
 failures_true zones m (Closed number) = tt
 

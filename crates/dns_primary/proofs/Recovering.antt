@@ -77,6 +77,6 @@ moved_recovered z making base c made =
     let versions : o.versions ≡ versions_of z.shown ++ versions_of z.staged = left.versions ∙ ap (λ (vs : Versions). (versions_of z.shown ++ versions_of z.staged) ++ vs) none ∙ append-nil (versions_of z.shown ++ versions_of z.staged) in
     recovered_as making z o (versions_of z.staged) [] c left.loaded left.openings (sym (append-nil (versions_of z.staged))) versions (choice o.base left.base) there.2))
 
-pub checkpoint_recovered : (m : Machine) (event : Event) (place room : ℕ) (z : ZoneState) (c : Content) → Checkpoints m event place room → OpensAsCheckpointed opens z.setting.keep room (kept_of z) c → OpensAsRecovered opens 0 (IsMaking m event place z) z c
-checkpoint_recovered m event place room z c makes (inl left) = left_recovered (IsMaking m event place z) z c left
-checkpoint_recovered m event place room z c makes (inr (opened, (base, next, left))) = moved_recovered z (IsMaking m event place z) base c (opened, (room, makes, next)) left
+pub checkpoint_recovered : (m : Machine) (event : Event) (index room : ℕ) (z : ZoneState) (c : Content) → Checkpoints m event index room → OpensAsCheckpointed opens z.setting.keep room (kept_of z) c → OpensAsRecovered opens 0 (IsMaking m event index z) z c
+checkpoint_recovered m event index room z c makes (inl left) = left_recovered (IsMaking m event index z) z c left
+checkpoint_recovered m event index room z c makes (inr (opened, (base, next, left))) = moved_recovered z (IsMaking m event index z) base c (opened, (room, makes, next)) left

@@ -71,59 +71,59 @@ all_released old new zones goes came (w ∷ ws) there = (
 flush_releases : (fails : List Bool) (old new : Machine) → Closes (flushed_zones fails old.zones) new.zones → Releases old new (flush_sends fails old)
 flush_releases fails old new goes = all_released old new (flushed_zones fails old.zones) goes (flush_closes fails old.zones) old.waiting (λ w h. h)
 
-set_closes : (zones : List ZoneState) (place : ℕ) (z w : ZoneState) → slice_get zones place ≡ Some z → (z.closed ≡ true → w.closed ≡ true) → Closes zones (slice_set zones place w)
-set_closes [] place z w e goes n c = c
+set_closes : (zones : List ZoneState) (index : ℕ) (z w : ZoneState) → slice_get zones index ≡ Some z → (z.closed ≡ true → w.closed ≡ true) → Closes zones (slice_set zones index w)
+set_closes [] index z w e goes n c = c
 set_closes (a ∷ zones) zero z w e goes zero c = (let is : a ≡ z = cc in goes (sym (ap (λ (x : ZoneState). x.closed) is) ∙ c))
 set_closes (a ∷ zones) zero z w e goes (suc n) c = c
-set_closes (a ∷ zones) (suc place) z w e goes zero c = c
-set_closes (a ∷ zones) (suc place) z w e goes (suc n) c = set_closes zones place z w e goes n c
+set_closes (a ∷ zones) (suc index) z w e goes zero c = c
+set_closes (a ∷ zones) (suc index) z w e goes (suc n) c = set_closes zones index z w e goes n c
 
 moved_closes : (fails : Bool) (room : ℕ) (z new : ZoneState) → IsMovedUnlessClosed fails room z new → z.closed ≡ true → new.closed ≡ true
 moved_closes fails room z new (inl h) e = ap (λ (x : ZoneState). x.closed) h.2 ∙ e
 moved_closes fails room z new (inr h) e = let clash : true ≡ false = sym e ∙ h.0 in absurd (cc clash)
 
-checkpointed_releases : (fails : List Bool) (old : Machine) (place : ℕ) (o : Option ZoneState) (effects : Effects) (new : Machine) → IsCheckpointed fails old place o effects new → Releases old new effects.sent
-checkpointed_releases fails old place None effects new g = subst (λ (xs : List Sent). Releases old new xs) (sym (g.1).sent) tt
-checkpointed_releases fails old place (Some z) effects new g =
+checkpointed_releases : (fails : List Bool) (old : Machine) (index : ℕ) (o : Option ZoneState) (effects : Effects) (new : Machine) → IsCheckpointed fails old index o effects new → Releases old new effects.sent
+checkpointed_releases fails old index None effects new g = subst (λ (xs : List Sent). Releases old new xs) (sym (g.1).sent) tt
+checkpointed_releases fails old index (Some z) effects new g =
     let flushing = g.0 in
     let made = g.3 in
     let zones = (flushed flushing old).zones in
     let closes : Closes zones new.zones = subst (λ (m : Machine). Closes zones m.zones) (sym made.is)
-    (set_closes zones place made.zone made.next made.stands (moved_closes g.1 0 made.zone made.next made.moved)) in
+    (set_closes zones index made.zone made.next made.stands (moved_closes g.1 0 made.zone made.next made.moved)) in
     subst (λ (xs : List Sent). Releases old new xs) (sym (g.4).sent) (flush_releases flushing old new closes)
 
 -- an update that is staged closes no zone
-set_alike : (zones : List ZoneState) (place : ℕ) (made : Made) (z : ZoneState) → slice_get zones place ≡ Some z → AreClosedAlike zones (slice_set zones place (with_staged made z))
-set_alike [] place made z e n = refl
+set_alike : (zones : List ZoneState) (index : ℕ) (made : Made) (z : ZoneState) → slice_get zones index ≡ Some z → AreClosedAlike zones (slice_set zones index (with_staged made z))
+set_alike [] index made z e n = refl
 set_alike (a ∷ zones) zero made z e zero = (let is : a ≡ z = cc in ap (λ (x : ZoneState). x.closed) is)
 set_alike (a ∷ zones) zero made z e (suc n) = refl
-set_alike (a ∷ zones) (suc place) made z e zero = refl
-set_alike (a ∷ zones) (suc place) made z e (suc n) = set_alike zones place made z e n
+set_alike (a ∷ zones) (suc index) made z e zero = refl
+set_alike (a ∷ zones) (suc index) made z e (suc n) = set_alike zones index made z e n
 
 record IsAnsweredIn (m : Machine) (ended : Machine × List Sent) : Type 0 where
   alike : AreClosedAlike m.zones (ended.0).zones
   sent : (old : Machine) → Releases old ended.0 ended.1
 
-waits_so : (m : Machine) (a : Asked) (place rcode serial : ℕ) (updates : List Made) → IsAnsweredIn m (waits m a place rcode serial updates, [])
-waits_so m a place rcode serial updates = record { alike = λ n. refl; sent = λ old. tt }
+waits_so : (m : Machine) (a : Asked) (index rcode serial : ℕ) (updates : List Made) → IsAnsweredIn m (waits m a index rcode serial updates, [])
+waits_so m a index rcode serial updates = record { alike = λ n. refl; sent = λ old. tt }
 
 replied_so : (m : Machine) (a : Asked) (rcode : ℕ) → IsAnsweredIn m (m, replies a rcode ∷ [])
 replied_so m a rcode = record { alike = λ n. refl; sent = λ old. (tt, tt) }
 
-accepted_so : (m : Machine) (a : Asked) (place : ℕ) (z : ZoneState) (records : List Record) → slice_get m.zones place ≡ Some z → IsAnsweredIn m (accepted_in m a place z records)
-accepted_so m a place z records e =
-    tested (IsAnsweredIn m) (has_room (kept_of z) records) (stages m a place z records, []) (waits m a place rcode_servfail (newest_serial z) (updates_of z), [])
-    (λ _. record { alike = set_alike m.zones place (record { update = a.message; records = records }) z e; sent = λ old. tt })
-    (λ _. waits_so m a place rcode_servfail (newest_serial z) (updates_of z))
+accepted_so : (m : Machine) (a : Asked) (index : ℕ) (z : ZoneState) (records : List Record) → slice_get m.zones index ≡ Some z → IsAnsweredIn m (accepted_in m a index z records)
+accepted_so m a index z records e =
+    tested (IsAnsweredIn m) (has_room (kept_of z) records) (stages m a index z records, []) (waits m a index rcode_servfail (newest_serial z) (updates_of z), [])
+    (λ _. record { alike = set_alike m.zones index (record { update = a.message; records = records }) z e; sent = λ old. tt })
+    (λ _. waits_so m a index rcode_servfail (newest_serial z) (updates_of z))
 
-judged_so : (m : Machine) (a : Asked) (place : ℕ) (z : ZoneState) (v : Verdict) → slice_get m.zones place ≡ Some z → IsAnsweredIn m (judged_in m a place z v)
-judged_so m a place z (Refuses rcode) e = waits_so m a place (number_of_rcode rcode) (newest_serial z) (updates_of z)
-judged_so m a place z Keeps e = waits_so m a place 0 (newest_serial z) (updates_of z)
-judged_so m a place z (Leaves records) e = accepted_so m a place z records e
+judged_so : (m : Machine) (a : Asked) (index : ℕ) (z : ZoneState) (v : Verdict) → slice_get m.zones index ≡ Some z → IsAnsweredIn m (judged_in m a index z v)
+judged_so m a index z (Refuses rcode) e = waits_so m a index (number_of_rcode rcode) (newest_serial z) (updates_of z)
+judged_so m a index z Keeps e = waits_so m a index 0 (newest_serial z) (updates_of z)
+judged_so m a index z (Leaves records) e = accepted_so m a index z records e
 
 admitted_so : (m : Machine) (a : Asked) (d : Admission) → StandsIn m.zones d → IsAnsweredIn m (admitted m a d)
 admitted_so m a (Rejects rcode) e = replied_so m a rcode
-admitted_so m a (Admits place z) e = judged_so m a place z (verdict (newest_zone (kept_of z)) a.message.answers a.message.authorities) e
+admitted_so m a (Admits index z) e = judged_so m a index z (verdict (newest_zone (kept_of z)) a.message.answers a.message.authorities) e
 
 reaches : (old new next : Machine) (sent out : List Sent) → new ≡ next → sent ≡ out → Releases old next out → Releases old new sent
 reaches old new next sent out e f p = subst (λ m. Releases old m sent) (sym e) (subst (λ xs. Releases old next xs) (sym f) p)
@@ -173,7 +173,7 @@ event_releases fails old (Connect peer) effects new g = elim (g.1) [
 ]
 event_releases fails old (Arrives number octets) effects new g = arrived_releases fails old number (peer_at number old.connections) octets effects new g
 event_releases fails old Flush effects new g = reaches old new (flushed fails old) effects.sent (flush_sends fails old) (g.1).state (g.1).sent (flush_releases fails old (flushed fails old) (λ n e. e))
-event_releases fails old (Checkpoint place) effects new g = checkpointed_releases fails old place (slice_get old.zones place) effects new g
+event_releases fails old (Checkpoint index) effects new g = checkpointed_releases fails old index (slice_get old.zones index) effects new g
 event_releases fails old (Pump number) effects new g = replies_all (IsReleasedFrom old new) (λ to octets. tt) effects.sent (pumped_quiet old number (sending_at number old.connections) effects.sent new g.1).replies
 event_releases fails old (Closed number) effects new g = subst (λ (xs : List Sent). Releases old new xs) (sym (g.1).sent) tt
 
@@ -190,7 +190,7 @@ failures_released old new m (Datagram peer octets) = failure_released old new (t
 failures_released old new m (Arrives number octets) = failure_on_released old new number (peer_at number m.connections) octets
 failures_released old new m (Connect peer) = tt
 failures_released old new m Flush = tt
-failures_released old new m (Checkpoint place) = tt
+failures_released old new m (Checkpoint index) = tt
 failures_released old new m (Pump number) = tt
 failures_released old new m (Closed number) = tt
 

@@ -1,7 +1,6 @@
 -- A checkpoint leaves the room that it is made for, so that what was judged before it can be staged.
 use Rattle.std.proofs.Common.{◌≡◌, ◌⊎◌, ◌<◌, ◌≤◌, ◌+◌, ◌-◌, ◌^◌, ℕ, zero, suc, Bool, true, false, inl, inr, ⊎_elim, List, [], ◌∷◌, ◌++◌, length, drop, sum_by, Option, Some, None, refl, sym, ap, subst, ◌∙◌, arith, append-nil}
 use Rattle.std.specs.Prelude.{slice_get, slice_set, ◌&&◌, ◌||◌, nat_le, nat_lt, option_map, if◌then◌else◌}
-use Rattle.std.specs.List.{AllByRecursion}
 use Rattle.std.proofs.lemmas.List.{length-append}
 use Rattle.std.proofs.lemmas.Bool.{cases_Bool}
 use Rattle.std.proofs.lemmas.Bool.Decides.{nat_tests}
@@ -9,7 +8,8 @@ use Rattle.dns_records.specs.Record.{Record}
 use Rattle.dns_wire.proofs.Binds.{true_le}
 use Rattle.dns_zone.specs.Zone.{Zone}
 use Rattle.dns_zone.specs.Order.{both_true}
-use Rattle.dns_update.specs.Verdict.{Verdict, Leaves, verdict}
+use Rattle.dns_wire.specs.declared.codes.Rcode.{Rcode}
+use Rattle.dns_update.specs.Verdict.{Verdict, Refuses, Keeps, Leaves, verdict}
 use Rattle.dns_layout.specs.Sector.{snapshot_sectors}
 use Rattle.dns_store.specs.Versions.{Shape, Kept, newest_of, moved_to}
 use Rattle.dns_store.specs.Plain.{octets_of}
@@ -22,9 +22,10 @@ use Rattle.dns_versions.specs.Staging.{has_room, sectors_lacked}
 use Rattle.dns_primary.specs.Machine.{Setting, Made, ZoneState, Machine, kept_of, versions_of}
 use Rattle.dns_primary.specs.Flush.{Sent, is_none_made, flushed, flushed_zone, flushed_zones, flush_sends}
 use Rattle.dns_primary.specs.Update.{Asked, Admission, Admits, admission, is_full, made_place, lacked_at, lacked_by, room_lacked}
-use Rattle.dns_primary.specs.declared.update.Judgement.{Judgement}
-use Rattle.dns_primary.specs.Outcome.{HasLeft, IsVerdictOf}
-use Rattle.dns_primary.specs.Queue.{HoldsStill, IsUpdateJudged}
+use Rattle.dns_primary.specs.declared.update.Planned.{Planned}
+use Rattle.dns_primary.specs.declared.update.Planned.TheVariants.{Unchanged, Accepted}
+use Rattle.dns_primary.specs.Outcome.{ChangesNothing, HasLeft, IsPlannedBy}
+use Rattle.dns_primary.specs.Queue.{HoldsStill, IsUpdatePlanned}
 use Rattle.dns_primary.specs.Checkpoint.{rebased, IsMovedUnlessClosed, IsCheckpoint, IsSettled}
 use Rattle.dns_primary.specs.Step.{Effects, IsUpdateBegun}
 use Rattle.dns_primary.proofs.Zonewise.{tested, pair_same, pair_on, pair_set, pair_found, versions_joined, zone_flushed}
@@ -69,24 +70,24 @@ flushed_alike f z =
     }))
 
 -- the zone at a position after a flush
-record FlushedAt (zones : List ZoneState) (place : ℕ) (w : ZoneState) : Type 0 where
+record FlushedAt (zones : List ZoneState) (index : ℕ) (w : ZoneState) : Type 0 where
   fails : Bool
   zone : ZoneState
-  there : slice_get zones place ≡ Some zone
+  there : slice_get zones index ≡ Some zone
   is : (w ≡ flushed_zone fails zone) ⊎ (w ≡ zone)
 
-flushed_at : (fails : List Bool) (zones : List ZoneState) (place : ℕ) (w : ZoneState) → slice_get (flushed_zones fails zones) place ≡ Some w → FlushedAt zones place w
-flushed_at [] zones place w e = record { fails = false; zone = w; there = e; is = inr refl }
-flushed_at (f ∷ fails) [] place w e = absurd cc
+flushed_at : (fails : List Bool) (zones : List ZoneState) (index : ℕ) (w : ZoneState) → slice_get (flushed_zones fails zones) index ≡ Some w → FlushedAt zones index w
+flushed_at [] zones index w e = record { fails = false; zone = w; there = e; is = inr refl }
+flushed_at (f ∷ fails) [] index w e = absurd cc
 flushed_at (f ∷ fails) (z ∷ zones) zero w e = (let same : flushed_zone f z ≡ w = cc in record { fails = f; zone = z; there = refl; is = inl (sym same) })
-flushed_at (f ∷ fails) (z ∷ zones) (suc place) w e = (let rest = flushed_at fails zones place w e in record { fails = rest.fails; zone = rest.zone; there = rest.there; is = rest.is })
+flushed_at (f ∷ fails) (z ∷ zones) (suc index) w e = (let rest = flushed_at fails zones index w e in record { fails = rest.fails; zone = rest.zone; there = rest.there; is = rest.is })
 
 same_some : (a b : ZoneState) → ◌≡◌ {A = Option ZoneState} (Some a) (Some b) → a ≡ b
 same_some a b e = cc
 
-alike_at : (fails : List Bool) (zones : List ZoneState) (place : ℕ) (z w : ZoneState) → slice_get zones place ≡ Some z → slice_get (flushed_zones fails zones) place ≡ Some w → Alike z w
-alike_at fails zones place z w there e =
-    let at = flushed_at fails zones place w e in
+alike_at : (fails : List Bool) (zones : List ZoneState) (index : ℕ) (z w : ZoneState) → slice_get zones index ≡ Some z → slice_get (flushed_zones fails zones) index ≡ Some w → Alike z w
+alike_at fails zones index z w there e =
+    let at = flushed_at fails zones index w e in
     let same : z ≡ at.zone = same_some z at.zone (sym there ∙ at.there) in
     subst (λ (x : ZoneState). Alike x w) (sym same)
     (⊎_elim (λ is. subst (Alike at.zone) (sym is) (flushed_alike at.fails at.zone)) (λ is. subst (Alike at.zone) (sym is) (record { number = refl; left = refl })) at.is)
@@ -134,6 +135,16 @@ room_same z w records f number =
     let newest = newest_same z w f in
     λ i. room_by (shape i) (newest i) (number i) records
 
+-- What an update comes to depends on the room that there is for versions alone.
+nothing_on : (k l : Kept) → ((after : List Record) → has_room l after ≡ has_room k after) → (v : Verdict) (rcode : Rcode) → ChangesNothing k v rcode → ChangesNothing l v rcode
+nothing_on k l same (Refuses code) rcode h = h
+nothing_on k l same Keeps rcode h = h
+nothing_on k l same (Leaves after) rcode h = (same after ∙ h.0, h.1)
+
+planned_on : {X : Type 0} (k l : Kept) → ((after : List Record) → has_room l after ≡ has_room k after) → (v : Verdict) (p : Planned X) → IsPlannedBy k v p → IsPlannedBy l v p
+planned_on k l same v (Unchanged rcode) h = nothing_on k l same v rcode h
+planned_on k l same v (Accepted plan lacked) h = (h.0, record { room = same plan.version.records ∙ (h.1).room; octets = (h.1).octets })
+
 entry_same : (z w : ZoneState) (records : List Record) → Follows z w → entry_between (newest_of (kept_of w)) records ≡ entry_between (newest_of (kept_of z)) records
 entry_same z w records f = ap (λ (rs : List Record). entry_between rs records) (newest_same z w f)
 
@@ -147,12 +158,12 @@ entry_within k records room =
     true_le (entry_between (newest_of k) records) k.shape.journal third.1
 
 -- ---- a zone whose base was moved has the room that it was moved for
-settled_at : (fails : List Bool) (zones : List ZoneState) (place : ℕ) (w : ZoneState) → length fails ≡ length zones → slice_get (flushed_zones fails zones) place ≡ Some w → IsSettled w
-settled_at [] [] place w long e = absurd cc
-settled_at [] (z ∷ zones) place w long e = absurd (omega (arith, long))
-settled_at (f ∷ fails) [] place w long e = absurd (omega (arith, long))
+settled_at : (fails : List Bool) (zones : List ZoneState) (index : ℕ) (w : ZoneState) → length fails ≡ length zones → slice_get (flushed_zones fails zones) index ≡ Some w → IsSettled w
+settled_at [] [] index w long e = absurd cc
+settled_at [] (z ∷ zones) index w long e = absurd (omega (arith, long))
+settled_at (f ∷ fails) [] index w long e = absurd (omega (arith, long))
 settled_at (f ∷ fails) (z ∷ zones) zero w long e = (let same : flushed_zone f z ≡ w = cc in subst IsSettled same (zone_settled f z))
-settled_at (f ∷ fails) (z ∷ zones) (suc place) w long e = settled_at fails zones place w (omega (arith, long)) e
+settled_at (f ∷ fails) (z ∷ zones) (suc index) w long e = settled_at fails zones index w (omega (arith, long)) e
 
 clash : {X : Type 0} (b : Bool) → b ≡ true → b ≡ false → X
 clash true e f = absurd (cc f)
@@ -171,34 +182,34 @@ moved_room false room z new rest le opened (inr (before, (base, next, is))) =
     (subst (λ (b : ℕ). room ≤ sectors_left (moved_to b k)) (sym base_is) left)
 
 -- ---- an update that has room by the rules isn't refused for want of it
-set_stands : (zones : List ZoneState) (place : ℕ) (z w : ZoneState) → slice_get zones place ≡ Some z → slice_get (slice_set zones place w) place ≡ Some w
-set_stands [] place z w e = absurd cc
+set_stands : (zones : List ZoneState) (index : ℕ) (z w : ZoneState) → slice_get zones index ≡ Some z → slice_get (slice_set zones index w) index ≡ Some w
+set_stands [] index z w e = absurd cc
 set_stands (a ∷ zones) zero z w e = refl
-set_stands (a ∷ zones) (suc place) z w e = set_stands zones place z w e
+set_stands (a ∷ zones) (suc index) z w e = set_stands zones index z w e
 
-checkpoint_room : (old : Machine) (place room : ℕ) (fails : List Bool) (moving : Bool) (mid : Machine) (z w : ZoneState) → IsCheckpoint place room old fails moving mid
-    → slice_get old.zones place ≡ Some z → slice_get mid.zones place ≡ Some w → room ≤ z.setting.shape.journal → w.closed ≡ false → room ≤ sectors_left (kept_of w)
-checkpoint_room old place room fails moving mid z w made there here le opened =
+checkpoint_room : (old : Machine) (index room : ℕ) (fails : List Bool) (moving : Bool) (mid : Machine) (z w : ZoneState) → IsCheckpoint index room old fails moving mid
+    → slice_get old.zones index ≡ Some z → slice_get mid.zones index ≡ Some w → room ≤ z.setting.shape.journal → w.closed ≡ false → room ≤ sectors_left (kept_of w)
+checkpoint_room old index room fails moving mid z w made there here le opened =
     let zones = flushed_zones fails old.zones in
-    let next_here : slice_get mid.zones place ≡ Some made.next = ap (λ (m : Machine). slice_get m.zones place) made.is ∙ set_stands zones place made.zone made.next made.stands in
+    let next_here : slice_get mid.zones index ≡ Some made.next = ap (λ (m : Machine). slice_get m.zones index) made.is ∙ set_stands zones index made.zone made.next made.stands in
     let same : made.next ≡ w = same_some made.next w (sym next_here ∙ here) in
-    let at = flushed_at fails old.zones place made.zone made.stands in
+    let at = flushed_at fails old.zones index made.zone made.stands in
     let first : z ≡ at.zone = same_some z at.zone (sym there ∙ at.there) in
     let setting : (made.zone).setting ≡ z.setting =
     ⊎_elim (λ is. ap (λ (x : ZoneState). x.setting) is ∙ (zone_flushed at.fails at.zone).same.setting ∙ ap (λ (x : ZoneState). x.setting) (sym first))
     (λ is. ap (λ (x : ZoneState). x.setting) (is ∙ sym first)) at.is in
     let le_here : room ≤ (made.zone).setting.shape.journal = subst (λ (s : Setting). room ≤ s.shape.journal) (sym setting) le in
     subst (λ (x : ZoneState). room ≤ sectors_left (kept_of x)) same
-    (moved_room moving room made.zone made.next (settled_at fails old.zones place made.zone made.all made.stands) le_here (ap (λ (x : ZoneState). x.closed) same ∙ opened) made.moved)
+    (moved_room moving room made.zone made.next (settled_at fails old.zones index made.zone made.all made.stands) le_here (ap (λ (x : ZoneState). x.closed) same ∙ opened) made.moved)
 
 -- what is left where nothing lacks
-place_left : (old : Machine) (fails : List Bool) (mid : Machine) (place : ℕ) (z w : ZoneState) → mid ≡ (made_place fails old).0 → slice_get old.zones place ≡ Some z → slice_get mid.zones place ≡ Some w
+place_left : (old : Machine) (fails : List Bool) (mid : Machine) (index : ℕ) (z w : ZoneState) → mid ≡ (made_place fails old).0 → slice_get old.zones index ≡ Some z → slice_get mid.zones index ≡ Some w
     → sectors_left (kept_of w) ≡ sectors_left (kept_of z)
-place_left old fails mid place z w is there here =
-    tested (λ (p : Machine × List Sent). slice_get (p.0).zones place ≡ Some w → sectors_left (kept_of w) ≡ sectors_left (kept_of z)) (is_full old) (flushed fails old, flush_sends fails old) (old, [])
-    (λ _ e. (alike_at fails old.zones place z w there e).left)
+place_left old fails mid index z w is there here =
+    tested (λ (p : Machine × List Sent). slice_get (p.0).zones index ≡ Some w → sectors_left (kept_of w) ≡ sectors_left (kept_of z)) (is_full old) (flushed fails old, flush_sends fails old) (old, [])
+    (λ _ e. (alike_at fails old.zones index z w there e).left)
     (λ _ e. ap (λ (x : ZoneState). sectors_left (kept_of x)) (same_some w z (sym e ∙ there)))
-    (sym (ap (λ (m : Machine). slice_get m.zones place) is) ∙ here)
+    (sym (ap (λ (m : Machine). slice_get m.zones index) is) ∙ here)
 
 lacks_then : (room less : Bool) (entry : ℕ) → room ≡ true → less ≡ true → ◌≡◌ {A = Option ℕ} (if room && less then Some entry else None) (Some entry)
 lacks_then true true entry r l = refl
@@ -217,21 +228,21 @@ not_within : (a b : ℕ) → nat_le a b ≡ false → b < a
 not_within a b e = grind (arith, nat_tests, e)
 
 abbrev lacking : ℕ → Option ℕ → Option (ℕ × ℕ)
-lacking place lacked = option_map (λ (sectors : ℕ). (place, sectors)) lacked
+lacking index lacked = option_map (λ (sectors : ℕ). (index, sectors)) lacked
 
-left_pending : (fails : List Bool) (old : Machine) (first : Effects) (mid : Machine) (place : ℕ) (z w : ZoneState) (records : List Record)
-    → IsUpdateBegun fails old (lacking place (sectors_lacked (kept_of z) records)) first mid
-    → slice_get old.zones place ≡ Some z → slice_get mid.zones place ≡ Some w → w.closed ≡ false → has_room (kept_of z) records ≡ true
+left_pending : (fails : List Bool) (old : Machine) (first : Effects) (mid : Machine) (index : ℕ) (z w : ZoneState) (records : List Record)
+    → IsUpdateBegun fails old (lacking index (sectors_lacked (kept_of z) records)) first mid
+    → slice_get old.zones index ≡ Some z → slice_get mid.zones index ≡ Some w → w.closed ≡ false → has_room (kept_of z) records ≡ true
     → entry_between (newest_of (kept_of z)) records ≤ sectors_left (kept_of w)
-left_pending fails old first mid place z w records begun there here opened room =
+left_pending fails old first mid index z w records begun there here opened room =
     let k = kept_of z in
     let entry = entry_between (newest_of k) records in
     let less = nat_lt (sectors_left k) entry in
     ⊎_elim
-    (λ is. (let b : IsUpdateBegun fails old (Some (place, entry)) first mid = subst (λ (o : Option ℕ). IsUpdateBegun fails old (lacking place o) first mid) (lacks_then (has_room k records) less entry room is) begun in
-    checkpoint_room old place entry b.0 b.1 mid z w b.3 there here (entry_within k records room) opened))
-    (λ is. (let b : IsUpdateBegun fails old None first mid = subst (λ (o : Option ℕ). IsUpdateBegun fails old (lacking place o) first mid) (lacks_not (has_room k records) less entry is) begun in
-    let same = place_left old fails mid place z w (b.1).state there here in
+    (λ is. (let b : IsUpdateBegun fails old (Some (index, entry)) first mid = subst (λ (o : Option ℕ). IsUpdateBegun fails old (lacking index o) first mid) (lacks_then (has_room k records) less entry room is) begun in
+    checkpoint_room old index entry b.0 b.1 mid z w b.3 there here (entry_within k records room) opened))
+    (λ is. (let b : IsUpdateBegun fails old None first mid = subst (λ (o : Option ℕ). IsUpdateBegun fails old (lacking index o) first mid) (lacks_not (has_room k records) less entry is) begun in
+    let same = place_left old fails mid index z w (b.1).state there here in
     let le : entry ≤ sectors_left k = not_less (sectors_left k) entry is in
     omega (arith, le, same)))
     (cases_Bool less)
@@ -240,29 +251,36 @@ module _ (fails : List Bool) (old : Machine) (a : Asked) (first : Effects) (mid 
   abbrev judged : ZoneState → Verdict
   judged z = verdict (newest_zone (kept_of z)) a.message.answers a.message.authorities
 
+  counted_at : (index : ℕ) (z : ZoneState) → admission old.zones a ≡ Admits index z → (s : StandsStill mid.zones index z (admission mid.zones a)) → Counted z s.zone
+  counted_at index z admits s =
+      let there : slice_get old.zones index ≡ Some z = subst (StandsIn old.zones) admits (admission_stands old.zones a) in
+      let found = pair_found Counted old.zones mid.zones index z (begun_counted fails old (room_lacked old a) first mid begun) there in
+      subst (Counted z) (same_some found.zone s.zone (sym found.stands ∙ s.stands)) found.holds
+
   -- What came first left room for the entry.
-  has_left : (place : ℕ) (z : ZoneState) → admission old.zones a ≡ Admits place z → (s : StandsStill mid.zones place z (admission mid.zones a)) → (s.zone).closed ≡ false → HasLeft (kept_of s.zone) (judged s.zone)
-  has_left place z admits s is_open records leaves room =
-      let there : slice_get old.zones place ≡ Some z = subst (StandsIn old.zones) admits (admission_stands old.zones a) in
-      let found = pair_found Counted old.zones mid.zones place z (begun_counted fails old (room_lacked old a) first mid begun) there in
-      let counted : Counted z s.zone = subst (Counted z) (same_some found.zone s.zone (sym found.stands ∙ s.stands)) found.holds in
+  has_left : (index : ℕ) (z : ZoneState) → admission old.zones a ≡ Admits index z → (s : StandsStill mid.zones index z (admission mid.zones a)) → (s.zone).closed ≡ false → HasLeft (kept_of s.zone) (judged s.zone)
+  has_left index z admits s is_open records leaves room =
+      let there : slice_get old.zones index ≡ Some z = subst (StandsIn old.zones) admits (admission_stands old.zones a) in
+      let counted = counted_at index z admits s in
       let room_before : has_room (kept_of z) records ≡ true = sym (room_same z s.zone records s.follows counted) ∙ room in
       let verdict_before : judged z ≡ Leaves records = ap (λ (x : Zone). verdict x a.message.answers a.message.authorities) (sym s.follows.newest) ∙ leaves in
-      let lacked : room_lacked old a ≡ lacking place (sectors_lacked (kept_of z) records) =
-      ap (lacked_at a) admits ∙ ap (λ (v : Verdict). lacking place (lacked_by (kept_of z) v)) verdict_before in
-      let left = left_pending fails old first mid place z s.zone records (subst (λ (o : Option (ℕ × ℕ)). IsUpdateBegun fails old o first mid) lacked begun) there s.stands is_open room_before in
+      let lacked : room_lacked old a ≡ lacking index (sectors_lacked (kept_of z) records) =
+      ap (lacked_at a) admits ∙ ap (λ (v : Verdict). lacking index (lacked_by (kept_of z) v)) verdict_before in
+      let left = left_pending fails old first mid index z s.zone records (subst (λ (o : Option (ℕ × ℕ)). IsUpdateBegun fails old o first mid) lacked begun) there s.stands is_open room_before in
       let entry = entry_same z s.zone records s.follows in
       omega (arith, left, entry)
 
-  -- What was judged before it still holds.
-  pub still_judged : {X : Type 0} (records : X → List Record) (place : ℕ) (j : Judgement X) → IsUpdateJudged records old a place j → HoldsStill records mid a place j
-  still_judged records place j is =
-      let g : StandsStill mid.zones place is.zone (admission mid.zones a) = subst (λ (d : Admission). Goes mid.zones d (admission mid.zones a)) is.admits (admission_goes old.zones mid.zones a (begun_follows fails old (room_lacked old a) first mid begun)) in
+  -- What was planned before it still holds.
+  pub still_planned : {X : Type 0} (index : ℕ) (p : Planned X) → IsUpdatePlanned old a index p → HoldsStill mid a index p
+  still_planned index p is =
+      let g : StandsStill mid.zones index is.zone (admission mid.zones a) = subst (λ (d : Admission). Goes mid.zones d (admission mid.zones a)) is.admits (admission_goes old.zones mid.zones a (begun_follows fails old (room_lacked old a) first mid begun)) in
+      let counted = counted_at index is.zone is.admits g in
       record {
         zone = g.zone;
         stands = g.stands;
         shut = g.shut;
         admits = g.admits;
-        is = subst (λ (z : Zone). IsVerdictOf records (verdict z a.message.answers a.message.authorities) j) (sym (g.follows).newest) is.is;
-        left = has_left place is.zone is.admits g;
+        is = planned_on (kept_of is.zone) (kept_of g.zone) (λ after. room_same is.zone g.zone after g.follows counted) (judged g.zone) p
+            (subst (λ (z : Zone). IsPlannedBy (kept_of is.zone) (verdict z a.message.answers a.message.authorities) p) (sym (g.follows).newest) is.is);
+        left = has_left index is.zone is.admits g;
       }

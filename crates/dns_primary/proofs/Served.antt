@@ -5,7 +5,7 @@ use Rattle.dns_wire.specs.Message.{Header, Question, Message, header_of}
 use Rattle.dns_wire.specs.Reading.{message_of}
 use Rattle.dns_wire.specs.Text.{text}
 use Rattle.dns_zone.specs.Zone.{Zone}
-use Rattle.dns_zone.specs.declared.index.ZoneIndex as index
+use Rattle.dns_zone.specs.declared.index.ZoneIndex as zone_index
 use Rattle.dns_request.specs.Codes.{rcode_formerr, rcode_notimp, rcode_servfail}
 use Rattle.dns_request.specs.Request as request
 use Rattle.dns_request.specs.Request.{opcode_query, opcode_update, request_of, read_as, too_long}
@@ -13,7 +13,7 @@ use Rattle.dns_request.specs.declared.request.Transport.{Transport}
 use Rattle.dns_answer.specs.Answer.{Handled, Replies, bare_reply, handled, handled_as}
 use Rattle.dns_store.specs.declared.zone_store.ZoneStore as store
 use Rattle.dns_store.specs.Versions.{Kept, OpensAsLeft}
-use Rattle.dns_versions.specs.declared.pending.PendingZone.{PendingZone}
+use Rattle.dns_versions.specs.declared.zone_versions.ZoneVersions.{ZoneVersions}
 use Rattle.dns_sectors.specs.Device.{Content, LeavesOnly}
 use Rattle.dns_sectors.proofs.Moments.{started}
 use Rattle.dns_versions.proofs.Lists.{diag}
@@ -38,7 +38,7 @@ use Rattle.dns_primary.specs.Steps.{AtAnyMoment, Stepped, nothing, one_reply, an
 use Rattle.dns_primary.proofs.Judged.{tested, untested}
 
 -- the zones are those that the machine shows
-pub are_shown : {I S : Type 0} (keeps : S → Kept → Type 0) (zones : List Zone) (pending : List (PendingZone I S)) (states : List ZoneState) → HaveVersions keeps zones pending states → zones ≡ map (λ z. shown_zone (kept_of z)) states
+pub are_shown : {I S : Type 0} (keeps : S → Kept → Type 0) (zones : List Zone) (pending : List (ZoneVersions I S)) (states : List ZoneState) → HaveVersions keeps zones pending states → zones ≡ map (λ z. shown_zone (kept_of z)) states
 are_shown keeps [] [] [] each = refl
 are_shown keeps (z ∷ zones) (b ∷ pending) (s ∷ states) each = λ i. each.0.zone_is i ∷ are_shown keeps zones pending states each.1 i
 are_shown keeps _ _ _ each = absurd each
@@ -54,11 +54,11 @@ failed_still store failed moment left_since (f ∷ fails) (a ∷ olds) [] news h
 failed_still store failed moment left_since (f ∷ fails) (a ∷ olds) (b ∷ mids) [] h same = absurd same
 
 -- no call was made, or none more
-pub rests : {I S : Type 0} (s : store.Ghosts S) (zones : List Zone) (pending : List (PendingZone I S)) (ks : List Kept)
+pub rests : {I S : Type 0} (s : store.Ghosts S) (zones : List Zone) (pending : List (ZoneVersions I S)) (ks : List Kept)
     → ((x : S) (k : Kept) → s.keeps x k → (c : Content) → s.left_since x (s.moment x) c → OpensAsLeft s.opens k c) → Each3 (λ z b k. HasVersions s.keeps z b k) zones pending ks
     → Each3 (λ a b k. LeavesOnly s.moment s.left_since a.store b.store (OpensAsLeft s.opens k)) pending pending ks
 rests {I} {S} s zones pending ks at_rest held =
-    diag (λ (z : Zone) (b : PendingZone I S) (k : Kept). HasVersions s.keeps z b k) (λ (a b : PendingZone I S) (k : Kept). LeavesOnly s.moment s.left_since a.store b.store (OpensAsLeft s.opens k)) zones pending ks held
+    diag (λ (z : Zone) (b : ZoneVersions I S) (k : Kept). HasVersions s.keeps z b k) (λ (a b : ZoneVersions I S) (k : Kept). LeavesOnly s.moment s.left_since a.store b.store (OpensAsLeft s.opens k)) zones pending ks held
     (λ z b k h. started s.moment s.left_since b.store (OpensAsLeft s.opens k) (λ c left. at_rest b.store k h.kept c left))
 
 pub still_leaves : {S B K : Type 0} (store : B → S) (failed : S → ℕ) (moment : S → ℕ) (left_since : S → ℕ → Content → Type 0) (P : K → Content → Type 0) (olds mids news : List B) (ks : List K)
@@ -120,23 +120,23 @@ lacks_by true old mid a fails stated is h = record {
   noted = refl;
   accepted = h.1.accepted;
   stays =
-      let place = full_place old fails is in
+      let index = full_place old fails is in
       inr (inl (
         ap (λ (b : Bool). b || is_some (room_lacked old a)) is,
         subst (λ (b : Bool). AreFailures b old fails) is h.0,
-        h.1.state ∙ ap (λ (p : Machine × List Sent). p.0) place,
-        ap (λ (l : List Sent). l ++ replies a rcode_servfail ∷ []) (h.1.sent ∙ ap (λ (p : Machine × List Sent). p.1) place),
+        h.1.state ∙ ap (λ (p : Machine × List Sent). p.0) index,
+        ap (λ (l : List Sent). l ++ replies a rcode_servfail ∷ []) (h.1.sent ∙ ap (λ (p : Machine × List Sent). p.1) index),
       ));
 }
 lacks_by false old mid a fails stated is h = record {
   noted = refl;
   accepted = h.1.accepted;
   stays =
-      let place = free_place old fails is in
+      let index = free_place old fails is in
       inl (
         subst (λ (b : Bool). AreFailures b old fails) is h.0,
-        h.1.state ∙ ap (λ (p : Machine × List Sent). p.0) place,
-        ap (λ (l : List Sent). l ++ replies a rcode_servfail ∷ []) (h.1.sent ∙ ap (λ (p : Machine × List Sent). p.1) place),
+        h.1.state ∙ ap (λ (p : Machine × List Sent). p.0) index,
+        ap (λ (l : List Sent). l ++ replies a rcode_servfail ∷ []) (h.1.sent ∙ ap (λ (p : Machine × List Sent). p.1) index),
       );
 }
 
@@ -203,13 +203,7 @@ answered held old mid a fails stated outcome.OutOfMemory h is = record {
   kept = is;
 }
 
--- what is told of an update, of machines that are held otherwise
-pub held_as : (f g : Machine → Type 0) → ((m : Machine) → f m → g m) → (old : Machine) (a : Asked) (ended : Machine × List Sent) (o : Outcome) → IsAnswered f old a ended o → IsAnswered g old a ended o
-held_as f g go old a ended (outcome.Waits rcode) h = (h.0, go ended.0 h.1)
-held_as f g go old a ended (outcome.AtOnce rcode) h = (h.0, go ended.0 h.1)
-held_as f g go old a ended outcome.OutOfMemory h = go old h
-
-module _ {I S : Type 0} {i : index.Ghosts I} {s : store.Ghosts S} where
+module _ {I S : Type 0} {i : zone_index.Ghosts I} {s : store.Ghosts S} where
   -- nothing changes, and this is what goes out
   pub stays : (p : Primary I S i s) (m : Machine) (effects : Effects) (stated : machine.Effects) (step : List Bool → machine.Effects → Machine → Type 0) → AtAnyMoment s m p.pending.items p.pending.items → IsKept p m → AreEffects stated effects → step [] stated m
       → Stepped m p p effects step
@@ -267,7 +261,7 @@ transferred_as old new peer to octets transport m q fails stated e header h =
       stays = inl (l.nothing, l.stays, ap (λ (x : machine.Effects). x.sent) l.is ∙ sym (failure_is to octets m.header (asking octets transport (request.Transfer m q) (sym e) (λ x. cc x)) header));
     })) h
 
-module _ {I S : Type 0} {i : index.Ghosts I} {s : store.Ghosts S} where
+module _ {I S : Type 0} {i : zone_index.Ghosts I} {s : store.Ghosts S} where
   -- a request that changes nothing is replied to, or lacks memory
   pub replies_or_lacks : (p : Primary I S i s) (m : Machine) (effects : Effects) (peer : Peer) (to : To) (octets : List ℕ) (transport : Transport) (r : request.Request) (reply : List ℕ)
       → r ≡ request_of octets transport → (r ≡ request.Ignored → ⊥) → handled_as (shown_zones m) octets transport r ≡ Replies reply → AtAnyMoment s m p.pending.items p.pending.items → IsKept p m

@@ -135,8 +135,8 @@ flush_preserves fails m long s =
     }
 
 -- a reply that waits
-pub wait_preserves : (m : Machine) (a : Asked) (place rcode : ℕ) (z : ZoneState) → IsSound m → slice_get m.zones place ≡ Some z → Preserves m (waits m a place rcode (newest_serial z) (updates_of z)) []
-wait_preserves m a place rcode z s e = record {
+pub wait_preserves : (m : Machine) (a : Asked) (index rcode : ℕ) (z : ZoneState) → IsSound m → slice_get m.zones index ≡ Some z → Preserves m (waits m a index rcode (newest_serial z) (updates_of z)) []
+wait_preserves m a index rcode z s e = record {
   lasts = all_last_same m.zones;
   sound = record {
     zones = s.zones;
@@ -145,10 +145,10 @@ wait_preserves m a place rcode z s e = record {
   good = tt;
 }
 
-set_stands : (zones : List ZoneState) (place : ℕ) (z w : ZoneState) → slice_get zones place ≡ Some z → slice_get (slice_set zones place w) place ≡ Some w
-set_stands [] place z w e = absurd cc
+set_stands : (zones : List ZoneState) (index : ℕ) (z w : ZoneState) → slice_get zones index ≡ Some z → slice_get (slice_set zones index w) index ≡ Some w
+set_stands [] index z w e = absurd cc
 set_stands (a ∷ zones) zero z w e = refl
-set_stands (a ∷ zones) (suc place) z w e = set_stands zones place z w e
+set_stands (a ∷ zones) (suc index) z w e = set_stands zones index z w e
 
 -- an update with room is accepted on the newest version
 accepted_on : (z : ZoneState) (made : Made) → verdict (newest_zone (kept_of z)) made.update.answers made.update.authorities ≡ Leaves made.records → has_room (kept_of z) made.records ≡ true
@@ -171,21 +171,21 @@ accepted_on z made j room =
     }
 
 -- an update that is staged
-pub stage_preserves : (m : Machine) (a : Asked) (place : ℕ) (z : ZoneState) (records : List Record) → IsSound m → slice_get m.zones place ≡ Some z
+pub stage_preserves : (m : Machine) (a : Asked) (index : ℕ) (z : ZoneState) (records : List Record) → IsSound m → slice_get m.zones index ≡ Some z
     → verdict (newest_zone (kept_of z)) a.message.answers a.message.authorities ≡ Leaves records → has_room (kept_of z) records ≡ true
-    → Preserves m (stages m a place z records) []
-stage_preserves m a place z records s e j room =
+    → Preserves m (stages m a index z records) []
+stage_preserves m a index z records s e j room =
     let made : Made = record { update = a.message; records = records } in
     let after : ZoneState = with_staged made z in
     let longer : updates_of after ≡ updates_of z ++ made ∷ [] = sym (append_assoc z.shown z.staged (made ∷ [])) in
-    let grown : Each2 Grows m.zones (slice_set m.zones place after) = pair_set Grows grows_itself m.zones place z after e (record { more = made ∷ []; updates = longer }) in
-    let history = history_more z.setting.shape 0 z.loaded (updates_of z) made (all_found HasHistory m.zones place z s.zones e) (accepted_on z made j room) in
+    let grown : Each2 Grows m.zones (slice_set m.zones index after) = pair_set Grows grows_itself m.zones index z after e (record { more = made ∷ []; updates = longer }) in
+    let history = history_more z.setting.shape 0 z.loaded (updates_of z) made (all_found HasHistory m.zones index z s.zones e) (accepted_on z made j room) in
     record {
-      lasts = pair_set Lasts lasts_same m.zones place z after e (record { shape = refl; loaded = refl; more = []; shown = sym (append-nil z.shown) });
+      lasts = pair_set Lasts lasts_same m.zones index z after e (record { shape = refl; loaded = refl; more = []; shown = sym (append-nil z.shown) });
       sound = record {
-        zones = all_set HasHistory m.zones place after s.zones (subst (λ (us : List Made). IsHistory z.setting.shape 0 z.loaded us) (sym longer) history);
-        waiting = all_more (IsPlaced (slice_set m.zones place after)) m.waiting _ (waiting_over m.zones (slice_set m.zones place after) grown m.waiting s.waiting)
-            (record { zone = after; stands = set_stands m.zones place z after e; more = []; updates = sym (append-nil (updates_of after)) });
+        zones = all_set HasHistory m.zones index after s.zones (subst (λ (us : List Made). IsHistory z.setting.shape 0 z.loaded us) (sym longer) history);
+        waiting = all_more (IsPlaced (slice_set m.zones index after)) m.waiting _ (waiting_over m.zones (slice_set m.zones index after) grown m.waiting s.waiting)
+            (record { zone = after; stands = set_stands m.zones index z after e; more = []; updates = sym (append-nil (updates_of after)) });
       };
       good = tt;
     }

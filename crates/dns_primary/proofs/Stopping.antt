@@ -33,13 +33,13 @@ recovered_history least most making z w r h =
     subst (λ (records : List Record). IsHistory w.setting.shape 0 records (z.shown ++ r.kept)) (sym r.loaded) (
     subst (λ (s : Setting). IsHistory s.shape 0 z.loaded (z.shown ++ r.kept)) (sym r.setting) front))
 
-all_recovered : (least most : ℕ) (m : Machine) (event : Event) (place : ℕ) (old new : List ZoneState) → AreRecovered least most m event place old new → AllByRecursion HasHistory old → AllLast old new × AllByRecursion HasHistory new
-all_recovered least most m event place [] [] r h = (tt, tt)
-all_recovered least most m event place [] (w ∷ new) r h = absurd r
-all_recovered least most m event place (z ∷ old) [] r h = absurd r
-all_recovered least most m event place (z ∷ old) (w ∷ new) r h =
-    let rest = all_recovered least most m event (suc place) old new r.1 h.1 in
-    ((recovered_lasts least most (IsMaking m event place z) z w r.0, rest.0), (recovered_history least most (IsMaking m event place z) z w r.0 h.0, rest.1))
+all_recovered : (least most : ℕ) (m : Machine) (event : Event) (index : ℕ) (old new : List ZoneState) → AreRecovered least most m event index old new → AllByRecursion HasHistory old → AllLast old new × AllByRecursion HasHistory new
+all_recovered least most m event index [] [] r h = (tt, tt)
+all_recovered least most m event index [] (w ∷ new) r h = absurd r
+all_recovered least most m event index (z ∷ old) [] r h = absurd r
+all_recovered least most m event index (z ∷ old) (w ∷ new) r h =
+    let rest = all_recovered least most m event (suc index) old new r.1 h.1 in
+    ((recovered_lasts least most (IsMaking m event index z) z w r.0, rest.0), (recovered_history least most (IsMaking m event index z) z w r.0 h.0, rest.1))
 
 stop_preserves : (tries : ℕ) (old : Machine) (event : Event) (new : Machine) → IsSound old → IsStopped tries old event new → Preserves old new []
 stop_preserves tries old event new s t =

@@ -149,20 +149,20 @@ module _ (number : ℕ) where
 
   -- the first with that number
   module _ {I : Type 0} where
-    pub record IsFound (start place : ℕ) (ts : List (OpenTransfer I)) : Type 0 where
+    pub record IsFound (start index : ℕ) (ts : List (OpenTransfer I)) : Type 0 where
       pub at : ℕ
-      pub place_is : place ≡ start + at
+      pub place_is : index ≡ start + at
       pub transfer : OpenTransfer I
       pub stands : slice_get ts at ≡ Some transfer
       pub has : sending_on number ts ≡ Some transfer.session
       pub set : (u : OpenTransfer I) → u.number ≡ transfer.number → SetsOn number (Some u.session) ts (slice_set ts at u)
 
-    found_from : (start place : ℕ) (ts : List (OpenTransfer I)) → position_from (λ t. t.number == number) start ts ≡ Some place → IsFound start place ts
-    found_from start place [] e = absurd (cc e)
-    found_from start place (t ∷ rest) e = by_test (t.number == number)
+    found_from : (start index : ℕ) (ts : List (OpenTransfer I)) → position_from (λ t. t.number == number) start ts ≡ Some index → IsFound start index ts
+    found_from start index [] e = absurd (cc e)
+    found_from start index (t ∷ rest) e = by_test (t.number == number)
         (λ is.
-        (let same : Some start ≡ Some place = sym (ap (λ (b : Bool). cond b (Some start) (position_from (λ (t : OpenTransfer I). t.number == number) (start + 1) rest)) is) ∙ e in
-        let begins : start ≡ place = cc in
+        (let same : Some start ≡ Some index = sym (ap (λ (b : Bool). cond b (Some start) (position_from (λ (t : OpenTransfer I). t.number == number) (start + 1) rest)) is) ∙ e in
+        let begins : start ≡ index = cc in
         record {
           at = 0;
           place_is = omega (arith, begins);
@@ -177,7 +177,7 @@ module _ (number : ℕ) where
           };
         }))
         (λ is.
-        (let r = found_from (start + 1) place rest (sym (ap (λ (b : Bool). cond b (Some start) (position_from (λ (t : OpenTransfer I). t.number == number) (start + 1) rest)) is) ∙ e) in
+        (let r = found_from (start + 1) index rest (sym (ap (λ (b : Bool). cond b (Some start) (position_from (λ (t : OpenTransfer I). t.number == number) (start + 1) rest)) is) ∙ e) in
         record {
           at = suc r.at;
           place_is = omega (arith, r.place_is);
@@ -190,8 +190,8 @@ module _ (number : ℕ) where
           };
         }))
 
-    pub found : (place : ℕ) (ts : List (OpenTransfer I)) → position (λ t. t.number == number) ts ≡ Some place → IsFound 0 place ts
-    found place ts e = found_from 0 place ts (sym (position_from-zero (λ (t : OpenTransfer I). t.number == number) ts) ∙ e)
+    pub found : (index : ℕ) (ts : List (OpenTransfer I)) → position (λ t. t.number == number) ts ≡ Some index → IsFound 0 index ts
+    found index ts e = found_from 0 index ts (sym (position_from-zero (λ (t : OpenTransfer I). t.number == number) ts) ∙ e)
 
     none_from : (start : ℕ) (ts : List (OpenTransfer I)) → position_from (λ t. t.number == number) start ts ≡ None → sending_on number ts ≡ None
     none_from start [] e = refl
@@ -207,38 +207,38 @@ module _ (number : ℕ) where
     sets_on s t xs ys zs p q = record { here = q.here; others = λ n ne. q.others n ne ∙ p.others n ne }
 
     -- the next message of the first with that number
-    module _ (place : ℕ) (ts : List (OpenTransfer I)) (one : IsFound 0 place ts) where
-      at_place : one.at ≡ place
+    module _ (index : ℕ) (ts : List (OpenTransfer I)) (one : IsFound 0 index ts) where
+      at_place : one.at ≡ index
       at_place = omega (arith, one.place_is)
 
-      pub is_first : slice_get ts place ≡ Some one.transfer
+      pub is_first : slice_get ts index ≡ Some one.transfer
       is_first = subst (λ (p : ℕ). slice_get ts p ≡ Some one.transfer) at_place one.stands
 
       module _ (u : OpenTransfer I) (number_is : u.number ≡ (one.transfer).number) where
-        pub set_at : SetsOn number (Some u.session) ts (slice_set ts place u)
+        pub set_at : SetsOn number (Some u.session) ts (slice_set ts index u)
         set_at = subst (λ (p : ℕ). SetsOn number (Some u.session) ts (slice_set ts p u)) at_place (one.set u number_is)
 
-        set_gone : SetsOn number None ts (without_on (slice_set ts place u))
-        set_gone = sets_on (Some u.session) None ts (slice_set ts place u) (without_on (slice_set ts place u)) set_at (forgot (slice_set ts place u))
+        set_gone : SetsOn number None ts (without_on (slice_set ts index u))
+        set_gone = sets_on (Some u.session) None ts (slice_set ts index u) (without_on (slice_set ts index u)) set_at (forgot (slice_set ts index u))
 
-        pub ends : ((one.transfer).session).left ≡ [] → EndsOn number ts (without_on (slice_set ts place u))
+        pub ends : ((one.transfer).session).left ≡ [] → EndsOn number ts (without_on (slice_set ts index u))
         ends none = inr ((one.transfer).session, one.has, none, set_gone)
 
         pub sends_last : (octets : List ℕ) → (((one.transfer).session).left ≡ [] → ⊥) → SendsMessage (one.transfer).session octets u.session → (u.session).left ≡ []
-            → SendsOn number octets ts (without_on (slice_set ts place u))
+            → SendsOn number octets ts (without_on (slice_set ts index u))
         sends_last octets some sends none =
-            ((one.transfer).session, one.has, some, (u.session, sends, subst (λ (o : Option Sending). SetsOn number o ts (without_on (slice_set ts place u))) (sym (ap (λ (l : List Record). open_still l u.session) none)) set_gone))
+            ((one.transfer).session, one.has, some, (u.session, sends, subst (λ (o : Option Sending). SetsOn number o ts (without_on (slice_set ts index u))) (sym (ap (λ (l : List Record). open_still l u.session) none)) set_gone))
 
         pub sends_on : (octets : List ℕ) → (((one.transfer).session).left ≡ [] → ⊥) → SendsMessage (one.transfer).session octets u.session → ((u.session).left ≡ [] → ⊥)
-            → SendsOn number octets ts (slice_set ts place u)
+            → SendsOn number octets ts (slice_set ts index u)
         sends_on octets some sends more =
-            ((one.transfer).session, one.has, some, (u.session, sends, subst (λ (o : Option Sending). SetsOn number o ts (slice_set ts place u)) (sym (still_open (u.session).left u.session more)) set_at))
+            ((one.transfer).session, one.has, some, (u.session, sends, subst (λ (o : Option Sending). SetsOn number o ts (slice_set ts index u)) (sym (still_open (u.session).left u.session more)) set_at))
 
-        pub same_on : u.session ≡ (one.transfer).session → (n : ℕ) → sending_on n (slice_set ts place u) ≡ sending_on n ts
+        pub same_on : u.session ≡ (one.transfer).session → (n : ℕ) → sending_on n (slice_set ts index u) ≡ sending_on n ts
         same_on e n = by_test (number == n)
             (λ is.
             (let same = is_one number n is in
-            subst (λ (k : ℕ). sending_on k (slice_set ts place u) ≡ sending_on k ts) same (set_at.here ∙ ap (λ (t : Sending). Some t) e ∙ sym one.has)))
+            subst (λ (k : ℕ). sending_on k (slice_set ts index u) ≡ sending_on k ts) same (set_at.here ∙ ap (λ (t : Sending). Some t) e ∙ sym one.has)))
             (λ is. set_at.others n (λ same. (let clash : true ≡ false = sym (test_same number n same) ∙ is in cc)))
 
 -- what a pump does

@@ -15,29 +15,29 @@ pub tested : {A : Type 0} (P : A → Type 0) (b : Bool) (x y : A) → (b ≡ tru
 tested P true x y f g = f refl
 tested P false x y f g = g refl
 
-pub record Found (R : ZoneState → ZoneState → Type 0) (z : ZoneState) (place : ℕ) (zones : List ZoneState) : Type 0 where
+pub record Found (R : ZoneState → ZoneState → Type 0) (z : ZoneState) (index : ℕ) (zones : List ZoneState) : Type 0 where
   pub zone : ZoneState
-  pub stands : slice_get zones place ≡ Some zone
+  pub stands : slice_get zones index ≡ Some zone
   pub holds : R z zone
 
-pub pair_found : (R : ZoneState → ZoneState → Type 0) (old new : List ZoneState) (place : ℕ) (z : ZoneState) → Each2 R old new → slice_get old place ≡ Some z → Found R z place new
-pair_found R [] [] place z h e = absurd cc
-pair_found R [] (w ∷ new) place z h e = absurd h
-pair_found R (a ∷ old) [] place z h e = absurd h
+pub pair_found : (R : ZoneState → ZoneState → Type 0) (old new : List ZoneState) (index : ℕ) (z : ZoneState) → Each2 R old new → slice_get old index ≡ Some z → Found R z index new
+pair_found R [] [] index z h e = absurd cc
+pair_found R [] (w ∷ new) index z h e = absurd h
+pair_found R (a ∷ old) [] index z h e = absurd h
 pair_found R (a ∷ old) (w ∷ new) zero z h e = (let same : a ≡ z = cc in record { zone = w; stands = refl; holds = subst (λ x. R x w) same h.0 })
-pair_found R (a ∷ old) (w ∷ new) (suc place) z h e = (let rest = pair_found R old new place z h.1 e in record { zone = rest.zone; stands = rest.stands; holds = rest.holds })
+pair_found R (a ∷ old) (w ∷ new) (suc index) z h e = (let rest = pair_found R old new index z h.1 e in record { zone = rest.zone; stands = rest.stands; holds = rest.holds })
 
-pub record FoundBefore (R : ZoneState → ZoneState → Type 0) (w : ZoneState) (place : ℕ) (zones : List ZoneState) : Type 0 where
+pub record FoundBefore (R : ZoneState → ZoneState → Type 0) (w : ZoneState) (index : ℕ) (zones : List ZoneState) : Type 0 where
   pub zone : ZoneState
-  pub there : slice_get zones place ≡ Some zone
+  pub there : slice_get zones index ≡ Some zone
   pub holds : R zone w
 
-pub pair_found_before : (R : ZoneState → ZoneState → Type 0) (old new : List ZoneState) (place : ℕ) (w : ZoneState) → Each2 R old new → slice_get new place ≡ Some w → FoundBefore R w place old
-pair_found_before R [] [] place w h e = absurd cc
-pair_found_before R [] (b ∷ new) place w h e = absurd h
-pair_found_before R (a ∷ old) [] place w h e = absurd h
+pub pair_found_before : (R : ZoneState → ZoneState → Type 0) (old new : List ZoneState) (index : ℕ) (w : ZoneState) → Each2 R old new → slice_get new index ≡ Some w → FoundBefore R w index old
+pair_found_before R [] [] index w h e = absurd cc
+pair_found_before R [] (b ∷ new) index w h e = absurd h
+pair_found_before R (a ∷ old) [] index w h e = absurd h
 pair_found_before R (a ∷ old) (b ∷ new) zero w h e = (let same : b ≡ w = cc in record { zone = a; there = refl; holds = subst (λ x. R a x) same h.0 })
-pair_found_before R (a ∷ old) (b ∷ new) (suc place) w h e = (let rest = pair_found_before R old new place w h.1 e in record { zone = rest.zone; there = rest.there; holds = rest.holds })
+pair_found_before R (a ∷ old) (b ∷ new) (suc index) w h e = (let rest = pair_found_before R old new index w h.1 e in record { zone = rest.zone; there = rest.there; holds = rest.holds })
 
 -- what each pair has another relation from
 pub pair_map : (R Q : ZoneState → ZoneState → Type 0) → ((a b : ZoneState) → R a b → Q a b) → (old new : List ZoneState) → Each2 R old new → Each2 Q old new
@@ -58,10 +58,10 @@ pair_on R on (a ∷ old) [] new p q = absurd p
 pair_on R on (a ∷ old) (b ∷ mid) [] p q = absurd q
 pair_on R on (a ∷ old) (b ∷ mid) (c ∷ new) p q = (on a b c p.0 q.0, pair_on R on old mid new p.1 q.1)
 
-pub pair_set : (R : ZoneState → ZoneState → Type 0) → ((z : ZoneState) → R z z) → (zones : List ZoneState) (place : ℕ) (z w : ZoneState) → slice_get zones place ≡ Some z → R z w → Each2 R zones (slice_set zones place w)
-pair_set R same [] place z w e h = absurd cc
+pub pair_set : (R : ZoneState → ZoneState → Type 0) → ((z : ZoneState) → R z z) → (zones : List ZoneState) (index : ℕ) (z w : ZoneState) → slice_get zones index ≡ Some z → R z w → Each2 R zones (slice_set zones index w)
+pair_set R same [] index z w e h = absurd cc
 pair_set R same (a ∷ zones) zero z w e h = (let is : z ≡ a = cc in (subst (λ x. R x w) is h, pair_same R same zones))
-pair_set R same (a ∷ zones) (suc place) z w e h = (same a, pair_set R same zones place z w e h)
+pair_set R same (a ∷ zones) (suc index) z w e h = (same a, pair_set R same zones index z w e h)
 
 -- a fact of each zone goes over
 pub pair_over : (R : ZoneState → ZoneState → Type 0) (P : ZoneState → Type 0) → ((a b : ZoneState) → R a b → P a → P b) → (old new : List ZoneState) → Each2 R old new → AllByRecursion P old → AllByRecursion P new
@@ -70,15 +70,15 @@ pair_over R P over [] (w ∷ new) h p = absurd h
 pair_over R P over (a ∷ old) [] h p = absurd h
 pair_over R P over (a ∷ old) (w ∷ new) h p = (over a w h.0 p.0, pair_over R P over old new h.1 p.1)
 
-pub all_found : (P : ZoneState → Type 0) (zones : List ZoneState) (place : ℕ) (z : ZoneState) → AllByRecursion P zones → slice_get zones place ≡ Some z → P z
-all_found P [] place z h e = absurd cc
+pub all_found : (P : ZoneState → Type 0) (zones : List ZoneState) (index : ℕ) (z : ZoneState) → AllByRecursion P zones → slice_get zones index ≡ Some z → P z
+all_found P [] index z h e = absurd cc
 all_found P (a ∷ zones) zero z h e = (let same : a ≡ z = cc in subst P same h.0)
-all_found P (a ∷ zones) (suc place) z h e = all_found P zones place z h.1 e
+all_found P (a ∷ zones) (suc index) z h e = all_found P zones index z h.1 e
 
-pub all_set : (P : ZoneState → Type 0) (zones : List ZoneState) (place : ℕ) (w : ZoneState) → AllByRecursion P zones → P w → AllByRecursion P (slice_set zones place w)
-all_set P [] place w h p = tt
+pub all_set : (P : ZoneState → Type 0) (zones : List ZoneState) (index : ℕ) (w : ZoneState) → AllByRecursion P zones → P w → AllByRecursion P (slice_set zones index w)
+all_set P [] index w h p = tt
 all_set P (a ∷ zones) zero w h p = (p, h.1)
-all_set P (a ∷ zones) (suc place) w h p = (h.0, all_set P zones place w h.1 p)
+all_set P (a ∷ zones) (suc index) w h p = (h.0, all_set P zones index w h.1 p)
 
 pub lasts_same : (z : ZoneState) → Lasts z z
 lasts_same z = record { shape = refl; loaded = refl; more = []; shown = sym (append-nil z.shown) }

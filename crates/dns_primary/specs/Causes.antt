@@ -31,19 +31,19 @@ code_of octets = (header_of octets).rcode
 
 -- The update is for a zone that is closed.
 pub record IsForClosed (m : Machine) (a : Asked) : Type 0 where
-  pub place : ℕ
+  pub index : ℕ
   pub zone : ZoneState
-  pub named : zone_position a.zone.name m.zones ≡ Some place
-  pub stands : slice_get m.zones place ≡ Some zone
+  pub named : zone_position a.zone.name m.zones ≡ Some index
+  pub stands : slice_get m.zones index ≡ Some zone
   pub closed : zone.closed ≡ true
 
 -- The update is accepted, and there is no room for the version that it leaves: it has too many records, its
 -- snapshot or its entry takes more sectors than a bank has, or there is no number for it.
 pub record LacksRoom (m : Machine) (a : Asked) : Type 0 where
-  pub place : ℕ
+  pub index : ℕ
   pub zone : ZoneState
   pub records : List Record
-  pub admits : admission m.zones a ≡ Admits place zone
+  pub admits : admission m.zones a ≡ Admits index zone
   pub leaves : verdict (newest_zone (kept_of zone)) a.message.answers a.message.authorities ≡ Leaves records
   pub room : has_room (kept_of zone) records ≡ false
 
@@ -83,14 +83,14 @@ EventCause fails m (Datagram peer octets) =
 EventCause fails m (Arrives number octets) = ArrivedCause fails m number (peer_at number m.connections) octets
 EventCause fails m (Connect peer) = ⊥
 EventCause fails m Flush = ⊥
-EventCause fails m (Checkpoint place) = ⊥
+EventCause fails m (Checkpoint index) = ⊥
 EventCause fails m (Pump number) = ⊥
 EventCause fails m (Closed number) = ⊥
 
 -- The zone at a position is closed in the event: its device failed.
 abbrev pub ClosesZone : Machine → Machine → ℕ → Type 0
-ClosesZone old new place =
-    (is_closed_in (slice_get old.zones place) ≡ false) × (is_closed_in (slice_get new.zones place) ≡ true)
+ClosesZone old new index =
+    (is_closed_in (slice_get old.zones index) ≡ false) × (is_closed_in (slice_get new.zones index) ≡ true)
 
 -- A reply that waited goes out with SERVFAIL if it waited with it, or if its zone is closed in the event; one
 -- to a request, by the request.

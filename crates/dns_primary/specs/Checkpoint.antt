@@ -25,24 +25,24 @@ IsMovedUnlessClosed fails room z new =
     ((z.closed ≡ true) × (fails ≡ false) × (new ≡ z)) ⊎ ((z.closed ≡ false) × IsMoved fails room z new)
 
 -- All zones are flushed, of which these fail in that; then the base of the one at a position is moved.
-pub record IsCheckpoint (place room : ℕ) (old : Machine) (fails : List Bool) (moving_fails : Bool)
+pub record IsCheckpoint (index room : ℕ) (old : Machine) (fails : List Bool) (moving_fails : Bool)
     (new : Machine) : Type 0 where
   pub all : length fails ≡ length old.zones
   pub zone : ZoneState
-  pub stands : slice_get (flushed fails old).zones place ≡ Some zone
+  pub stands : slice_get (flushed fails old).zones index ≡ Some zone
   pub next : ZoneState
   pub moved : IsMovedUnlessClosed moving_fails room zone next
-  pub is : new ≡ record (flushed fails old) { zones = slice_set (flushed fails old).zones place next }
+  pub is : new ≡ record (flushed fails old) { zones = slice_set (flushed fails old).zones index next }
 
 -- The devices that fail in the one or in the other, and the first of them.
 abbrev pub either_fails : Bool → ℕ → List Bool → List Bool
-either_fails false place fails = fails
-either_fails true place fails = slice_set fails place true
+either_fails false index fails = fails
+either_fails true index fails = slice_set fails index true
 
 abbrev pub first_to_fail : Option ℕ → Bool → ℕ → Option ℕ
-first_to_fail (Some earlier) moving_fails place = Some earlier
-first_to_fail None true place = Some place
-first_to_fail None false place = None
+first_to_fail (Some earlier) moving_fails index = Some earlier
+first_to_fail None true index = Some index
+first_to_fail None false index = None
 
 -- What is answered to the move of a zone's base, where nothing of it is staged or it is closed, and the zone
 -- then.

@@ -7,12 +7,12 @@ use Rattle.std.specs.declared.net.ip_addr.IpAddr.{IpAddr}
 use Rattle.dns_wire.specs.Message.{header_of}
 use Rattle.dns_wire.specs.Codes.{number_of_rcode}
 use Rattle.dns_zone.specs.Zone.{Zone}
-use Rattle.dns_zone.specs.declared.index.ZoneIndex as index
+use Rattle.dns_zone.specs.declared.index.ZoneIndex as zone_index
 use Rattle.dns_store.specs.declared.zone_store.ZoneStore as store
 use Rattle.dns_policy.specs.Prefix.{IsAllowed}
 use Rattle.dns_store.specs.Versions.{Kept}
 use Rattle.dns_transfer.specs.Session.{Sending}
-use Rattle.dns_versions.specs.declared.pending.PendingZone.{PendingZone}
+use Rattle.dns_versions.specs.declared.zone_versions.ZoneVersions.{ZoneVersions}
 use Rattle.dns_versions.specs.Each.{Each2, Each3}
 use Rattle.dns_versions.specs.Held.{HasVersions}
 use Rattle.dns_primary.specs.declared.event.Waiting.{Waiting}
@@ -34,7 +34,7 @@ use Rattle.dns_primary.specs.Update.{Admission, Rejects, Admits}
 use Rattle.dns_primary.specs.Step as machine
 
 -- These are the versions of the zones, in order.
-abbrev pub HaveVersions : {I S : Type 0} → (S → Kept → Type 0) → List Zone → List (PendingZone I S)
+abbrev pub HaveVersions : {I S : Type 0} → (S → Kept → Type 0) → List Zone → List (ZoneVersions I S)
     → List ZoneState → Type 0
 HaveVersions keeps zones pending states =
     Each3 (λ z b k. HasVersions keeps z b k) zones pending (map kept_of states)
@@ -67,7 +67,7 @@ sending_on number (t ∷ rest) = if t.number == number then Some t.session else 
 
 -- What is shown, what backs it, the pending replies, the connections and the transfers that are open on them
 -- are those of the machine, whatever older versions there were.
-pub record IsKept {I S : Type 0} {i : index.Ghosts I} {s : store.Ghosts S} (p : Primary I S i s)
+pub record IsKept {I S : Type 0} {i : zone_index.Ghosts I} {s : store.Ghosts S} (p : Primary I S i s)
     (m : Machine) : Type 0 where
   pub zones_are : HaveVersions s.keeps p.zones.items p.pending.items m.zones
   pub settings_are : Each2 IsSet p.settings.items m.zones
@@ -94,15 +94,15 @@ pub record AreEffects (stated : machine.Effects) (effects : Effects) : Type 0 wh
 -- The admission that follows from a test of the zone at a position, and one that names the position of a
 -- zone.
 abbrev pub admission_of_test : ℕ → ZoneState → Result (Unit {0}) Rcode → Admission
-admission_of_test place z (Ok v) = Admits place z
-admission_of_test place z (Err rcode) = Rejects (number_of_rcode rcode)
+admission_of_test index z (Ok v) = Admits index z
+admission_of_test index z (Err rcode) = Rejects (number_of_rcode rcode)
 
 abbrev pub admits_at : ℕ → Option ZoneState → Admission
-admits_at place None = Rejects rcode_notauth
-admits_at place (Some z) = Admits place z
+admits_at index None = Rejects rcode_notauth
+admits_at index (Some z) = Admits index z
 
 abbrev pub admission_shown : List ZoneState → Result ℕ Rcode → Admission
-admission_shown states (Ok place) = admits_at place (slice_get states place)
+admission_shown states (Ok index) = admits_at index (slice_get states index)
 admission_shown states (Err rcode) = Rejects (number_of_rcode rcode)
 
 -- Where a reply goes to a connection, it is there.

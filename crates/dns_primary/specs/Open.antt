@@ -17,11 +17,11 @@ use Rattle.dns_store.specs.Root.{OpenRefusal}
 use Rattle.dns_store.specs.Damage.{IsSectorRead, NamesAltered, NamesSector, NamesWrong}
 use Rattle.dns_store.specs.declared.kept_store.KeptStore.{KeptStore}
 use Rattle.dns_store.specs.declared.zone_store.ZoneStore as kept
-use Rattle.dns_zone.specs.declared.index.ZoneIndex as index
+use Rattle.dns_zone.specs.declared.index.ZoneIndex as zone_index
 use Rattle.dns_primary.specs.declared.primary.Primary.{Primary}
 use Rattle.dns_store.specs.declared.root.OpenError.{OpenError}
 use Rattle.dns_store.specs.declared.root.OpenError.TheVariants.{Device, OutOfMemory}
-use Rattle.dns_versions.specs.declared.pending.PendingZone.{PendingZone}
+use Rattle.dns_versions.specs.declared.zone_versions.ZoneVersions.{ZoneVersions}
 use Rattle.dns_versions.specs.Held.{HasVersions}
 use Rattle.dns_primary.specs.declared.primary.ZoneSpec.{ZoneSpec}
 use Rattle.dns_primary.specs.Machine.{ZoneState, Machine}
@@ -33,22 +33,22 @@ use Rattle.dns_primary.specs.Stop.{IsMaking, OpensAsRecovered}
 abbrev pub shape_of : Labels → ZoneSpec → Shape
 shape_of apex s = record { apex = apex; snapshot = s.snapshot; journal = s.journal }
 
-abbrev pub device_of_pending : {D I : Type 0} {g : Ghosts D} → PendingZone I (KeptStore D I g) → D
+abbrev pub device_of_pending : {D I : Type 0} {g : Ghosts D} → ZoneVersions I (KeptStore D I g) → D
 device_of_pending b = store_device b.store
 
 -- Its zones, and what backs each.
-abbrev pub zones_of : {I S : Type 0} {i : index.Ghosts I} {s : kept.Ghosts S} → Primary I S i s → List Zone
+abbrev pub zones_of : {I S : Type 0} {i : zone_index.Ghosts I} {s : kept.Ghosts S} → Primary I S i s → List Zone
 zones_of primary = primary.zones.items
 
-abbrev pub pending_of : {I S : Type 0} {i : index.Ghosts I} {s : kept.Ghosts S} → Primary I S i s
-    → List (PendingZone I S)
+abbrev pub pending_of : {I S : Type 0} {i : zone_index.Ghosts I} {s : kept.Ghosts S} → Primary I S i s
+    → List (ZoneVersions I S)
 pending_of primary = primary.pending.items
 
 -- How many zones there are, and the devices of all, in order.
-abbrev pub count_of : {I S : Type 0} {i : index.Ghosts I} {s : kept.Ghosts S} → Primary I S i s → ℕ
+abbrev pub count_of : {I S : Type 0} {i : zone_index.Ghosts I} {s : kept.Ghosts S} → Primary I S i s → ℕ
 count_of primary = length primary.pending.items
 
-abbrev pub devices_of : {D I : Type 0} {g : Ghosts D} {i : index.Ghosts I} {s : kept.Ghosts (KeptStore D I g)}
+abbrev pub devices_of : {D I : Type 0} {g : Ghosts D} {i : zone_index.Ghosts I} {s : kept.Ghosts (KeptStore D I g)}
     → Primary I (KeptStore D I g) i s → List D
 devices_of primary = map (λ b. device_of_pending b) primary.pending.items
 
@@ -63,7 +63,7 @@ pub record StaysPossible {D : Type 0} (g : Ghosts D) (apex : Labels) (s : ZoneSp
 -- What backs the zone keeps what a crash might have left of its device before, opened once more, whichever
 -- versions there were before the base.
 abbrev pub TakesDevice : {D I : Type 0} {g : Ghosts D} → Shape → D → Zone
-    → PendingZone I (KeptStore D I g) → Type 0
+    → ZoneVersions I (KeptStore D I g) → Type 0
 TakesDevice {g} shape device zone b =
     (d : Content) × g.may_leave device d
     × ((o : Opened) → opens shape o d → HasVersions (λ s k. keeps s k) zone b (fresh shape (opened_again o)))
@@ -72,9 +72,9 @@ TakesDevice {g} shape device zone b =
 -- own.
 abbrev pub OfSpoilt : {D : Type 0} → Ghosts D → Shape → D → (ℕ → Type 0) → Type 0
 OfSpoilt g shape device says =
-    g.is_honest device → IsInRange shape.snapshot shape.journal → (place : ℕ)
-    → IsSectorRead shape (g.seen device) place
-    → (IsIntactIn Two place (sector_at (g.seen device) place) → ⊥) → says place
+    g.is_honest device → IsInRange shape.snapshot shape.journal → (index : ℕ)
+    → IsSectorRead shape (g.seen device) index
+    → (IsIntactIn Two index (sector_at (g.seen device) index) → ⊥) → says index
 
 -- This is said of each content that opens as these versions and of which the device's has some sectors
 -- altered, none to zeros or to one that is its own.
@@ -88,12 +88,12 @@ OfAltered g shape device says =
 pub record IsIntactAs {D : Type 0} (g : Ghosts D) (shape : Shape) (device : D) : Type 0 where
   pub root : g.is_honest device
       → HasRootIn Two (sizes_of shape) (g.count device) (sector_at (g.seen device) 0)
-  pub not_own : OfSpoilt g shape device (λ place. ⊥)
+  pub not_own : OfSpoilt g shape device (λ index. ⊥)
 
 -- The device was opened as this zone. It was intact; and where some of its sectors were altered, the answer
 -- is that for the device before.
 pub record IsOpened {D I : Type 0} {g : Ghosts D} (apex : Labels) (s : ZoneSpec)
-    (device : D) (zone : Zone) (b : PendingZone I (KeptStore D I g))
+    (device : D) (zone : Zone) (b : ZoneVersions I (KeptStore D I g))
     : Type 0 where
   pub leaves : StaysPossible g apex s device (device_of_pending b)
   pub intact : IsIntactAs g (shape_of apex s) device
@@ -113,7 +113,7 @@ pub record IsNotOpened {D : Type 0} (g : Ghosts D) (apex : Labels) (s : ZoneSpec
   pub refused : g.is_honest old
       → OpenRefusal (sizes_of (shape_of apex s)) (g.count old) (sector_at (g.seen old) 0) error
   pub damaged : g.is_honest old → NamesWrong (shape_of apex s) (g.seen old) error
-  pub not_own : OfSpoilt g (shape_of apex s) old (λ place. NamesSector place error)
+  pub not_own : OfSpoilt g (shape_of apex s) old (λ index. NamesSector index error)
   pub altered : OfAltered g (shape_of apex s) old
       (λ c o. store.IsNotReopened o.openings error ⊎ NamesAltered c (g.seen old) error)
   pub unwritten : (error ≡ Device) ⊎ OnlyReads g old new
@@ -121,14 +121,14 @@ pub record IsNotOpened {D : Type 0} (g : Ghosts D) (apex : Labels) (s : ZoneSpec
 
 -- The devices of so many first zones were opened as these.
 abbrev pub AreOpened : {D I : Type 0} {g : Ghosts D} → ℕ → List Labels → List ZoneSpec
-    → List D → List Zone → List (PendingZone I (KeptStore D I g)) → Type 0
+    → List D → List Zone → List (ZoneVersions I (KeptStore D I g)) → Type 0
 AreOpened zero apexes settings devices [] [] = Unit {0}
 AreOpened (suc n) (a ∷ apexes) (s ∷ settings) (d ∷ devices) (z ∷ zones) (b ∷ pending) =
     IsOpened a s d z b × AreOpened n apexes settings devices zones pending
 AreOpened _ _ _ _ _ _ = ⊥
 
 -- Those of all zones were opened, and are the primary's.
-abbrev pub AreAllOpened : {D I : Type 0} {g : Ghosts D} {i : index.Ghosts I}
+abbrev pub AreAllOpened : {D I : Type 0} {g : Ghosts D} {i : zone_index.Ghosts I}
     {s : kept.Ghosts (KeptStore D I g)} → List Labels → List ZoneSpec → List D
     → Primary I (KeptStore D I g) i s → Type 0
 AreAllOpened apexes settings devices primary =
@@ -148,8 +148,8 @@ AreHandedBack g error _ _ _ _ _ = ⊥
 -- ... or memory was refused before any was opened, and all are as they came.
 abbrev pub AreRefused : {D : Type 0} → Ghosts D → OpenError → ℕ → List Labels → List ZoneSpec → List D
     → List D → Type 0
-AreRefused g error place apexes settings devices back =
-    AreHandedBack g error place apexes settings devices back ⊎ ((error ≡ OutOfMemory) × (back ≡ devices))
+AreRefused g error index apexes settings devices back =
+    AreHandedBack g error index apexes settings devices back ⊎ ((error ≡ OutOfMemory) × (back ≡ devices))
 
 -- Every crash leaves the zone's device so that it opens as one that this zone may be recovered as, opened at
 -- most so often since. These are its name and the sizes of its store, and its other settings are so.
@@ -173,11 +173,11 @@ AnySettings s z = Unit {0}
 -- Each zone's device, those from this position on, where the machine stopped within the event.
 abbrev pub AreRecoverableAs : {D : Type 0} → (ZoneSpec → ZoneState → Type 0) → Ghosts D → ℕ → Machine → Event
     → ℕ → List ZoneState → List Labels → List ZoneSpec → List D → Type 0
-AreRecoverableAs set_as g tries m event place [] [] [] [] = Unit {0}
-AreRecoverableAs set_as g tries m event place (z ∷ zones) (a ∷ apexes) (s ∷ settings) (d ∷ devices) =
-    IsRecoverableAs set_as g tries (IsMaking m event place z) z a s d
-    × AreRecoverableAs set_as g tries m event (suc place) zones apexes settings devices
-AreRecoverableAs set_as g tries m event place _ _ _ _ = ⊥
+AreRecoverableAs set_as g tries m event index [] [] [] [] = Unit {0}
+AreRecoverableAs set_as g tries m event index (z ∷ zones) (a ∷ apexes) (s ∷ settings) (d ∷ devices) =
+    IsRecoverableAs set_as g tries (IsMaking m event index z) z a s d
+    × AreRecoverableAs set_as g tries m event (suc index) zones apexes settings devices
+AreRecoverableAs set_as g tries m event index _ _ _ _ = ⊥
 
 -- So they are with these settings, or whichever they had.
 abbrev pub AreRecoverable : {D : Type 0} → Ghosts D → ℕ → Machine → Event → ℕ → List ZoneState → List Labels
@@ -204,15 +204,15 @@ AreDevicesAnew g tries m event apexes settings devices =
 -- recovered as.
 abbrev pub LeaveRecovered : {D : Type 0} → Ghosts D → ℕ → Machine → Event → ℕ → List ZoneState → List D
     → List D → Type 0
-LeaveRecovered g tries m event place [] [] [] = Unit {0}
-LeaveRecovered g tries m event place (z ∷ zones) (d ∷ olds) (e ∷ news) =
-    LeavesOnly g.moment g.left_since d e (OpensAsRecovered opens tries (IsMaking m event place z) z)
-    × LeaveRecovered g tries m event (suc place) zones olds news
-LeaveRecovered g tries m event place _ _ _ = ⊥
+LeaveRecovered g tries m event index [] [] [] = Unit {0}
+LeaveRecovered g tries m event index (z ∷ zones) (d ∷ olds) (e ∷ news) =
+    LeavesOnly g.moment g.left_since d e (OpensAsRecovered opens tries (IsMaking m event index z) z)
+    × LeaveRecovered g tries m event (suc index) zones olds news
+LeaveRecovered g tries m event index _ _ _ = ⊥
 
 -- The device of the zone there of a stopped machine failed, memory was refused, or its store was opened too
 -- often: as often as the machine says, and as there were tries since.
 abbrev pub IsRecoveryStopped : ℕ → OpenError → ℕ → List ZoneState → Type 0
-IsRecoveryStopped tries error place [] = error ≡ OutOfMemory
+IsRecoveryStopped tries error index [] = error ≡ OutOfMemory
 IsRecoveryStopped tries error zero (z ∷ zones) = store.IsNotReopened (z.openings + tries) error
 IsRecoveryStopped tries error (suc n) (z ∷ zones) = IsRecoveryStopped tries error n zones

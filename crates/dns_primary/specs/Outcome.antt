@@ -1,18 +1,17 @@
 -- What becomes of an update of a zone that isn't closed, by its verdict.
-use Rattle.std.specs.Prelude.{◌≡◌, ◌⊎◌, ◌≤◌, ℕ, true, List, Option, None, if◌then◌else◌}
+use Rattle.std.specs.Prelude.{◌≡◌, ◌≤◌, ℕ, true, false, List, Option, None, if◌then◌else◌}
 use Rattle.dns_records.specs.Record.{Record}
 use Rattle.dns_zone.specs.Zone.{Zone}
-use Rattle.dns_changes.specs.Change.{IsChange}
-use Rattle.dns_changes.specs.Version.{IsVersionAfter}
+use Rattle.dns_wire.specs.declared.codes.Rcode.{Rcode}
 use Rattle.dns_wire.specs.declared.codes.Rcode.TheVariants.{NoError, ServFail}
 use Rattle.dns_update.specs.Verdict.{Verdict, Refuses, Keeps, Leaves}
 use Rattle.dns_store.specs.Versions.{Kept, newest_of, staged_with}
 use Rattle.dns_store.specs.Room.{entry_between, sectors_left}
-use Rattle.dns_versions.specs.Staging.{has_room}
-use Rattle.dns_versions.specs.declared.staging.StagingError.{StagingError}
-use Rattle.dns_versions.specs.declared.staging.StagingError.TheVariants as staging
-use Rattle.dns_primary.specs.declared.update.Judgement.{Judgement}
-use Rattle.dns_primary.specs.declared.update.Judgement.TheVariants.{Unchanged, Accepted}
+use Rattle.dns_journal.specs.declared.journal.StageError.{StageError}
+use Rattle.dns_journal.specs.declared.journal.StageError.TheVariants as refusal
+use Rattle.dns_versions.specs.Staging.{HasPlanRoom, IsPlan, has_room}
+use Rattle.dns_primary.specs.declared.update.Planned.{Planned}
+use Rattle.dns_primary.specs.declared.update.Planned.TheVariants.{Unchanged, Accepted}
 use Rattle.dns_primary.specs.declared.update.Outcome.{Outcome}
 use Rattle.dns_primary.specs.declared.update.Outcome.TheVariants.{Waits, AtOnce, OutOfMemory}
 
@@ -42,24 +41,30 @@ IsDone held k v OutOfMemory = held k
 IsDone held k v (Waits rcode) = (Waits rcode ≡ (end_of k v).outcome) × held (end_of k v).versions
 IsDone held k v (AtOnce rcode) = (AtOnce rcode ≡ (end_of k v).outcome) × held (end_of k v).versions
 
-abbrev pub refused_as : StagingError → Outcome
-refused_as staging.NoRoom = Waits ServFail
-refused_as staging.Full = AtOnce ServFail
-refused_as staging.Closed = AtOnce ServFail
-refused_as staging.OutOfMemory = OutOfMemory
+abbrev pub refused_as : StageError → Outcome
+refused_as refusal.Full = AtOnce ServFail
+refused_as refusal.Closed = AtOnce ServFail
+refused_as refusal.OutOfMemory = OutOfMemory
 
--- What an update of a zone is judged to be, by its verdict on the newest version.
-abbrev pub IsVerdictOf : {X : Type 0} → (X → List Record) → Verdict → Judgement X → Type 0
-IsVerdictOf records v (Unchanged rcode) = (v ≡ Refuses rcode) ⊎ ((v ≡ Keeps) × (rcode ≡ NoError))
-IsVerdictOf records v (Accepted change next lacked) = v ≡ Leaves (records next)
+-- The update changes nothing, and is answered with this code: it is refused, all of it is done already, or
+-- there is no room for its version.
+abbrev pub ChangesNothing : Kept → Verdict → Rcode → Type 0
+ChangesNothing k (Refuses code) rcode = rcode ≡ code
+ChangesNothing k Keeps rcode = rcode ≡ NoError
+ChangesNothing k (Leaves after) rcode = (has_room k after ≡ false) × (rcode ≡ ServFail)
+
+-- What an update of a zone comes to, by its verdict on the newest version.
+abbrev pub IsPlannedBy : {X : Type 0} → Kept → Verdict → Planned X → Type 0
+IsPlannedBy k v (Unchanged rcode) = ChangesNothing k v rcode
+IsPlannedBy k v (Accepted plan lacked) =
+    (v ≡ Leaves plan.version.records) × HasPlanRoom k plan
 
 -- How many sectors it lacks.
-abbrev pub lacked_of : {X : Type 0} → Judgement X → Option ℕ
+abbrev pub lacked_of : {X : Type 0} → Planned X → Option ℕ
 lacked_of (Unchanged rcode) = None
-lacked_of (Accepted change next lacked) = lacked
+lacked_of (Accepted plan lacked) = lacked
 
--- The change leads from this version to its next one.
-abbrev pub IsStageable : {X : Type 0} → (X → List Record) → Zone → Judgement X → Type 0
-IsStageable records before (Unchanged rcode) = Unit {0}
-IsStageable records before (Accepted change next lacked) =
-    IsVersionAfter before change (records next) × IsChange before.records (records next) change
+-- The plan leads from this version to its next one.
+abbrev pub IsStageable : {X : Type 0} → Zone → Planned X → Type 0
+IsStageable before (Unchanged rcode) = Unit {0}
+IsStageable before (Accepted plan lacked) = IsPlan before plan.version.records plan

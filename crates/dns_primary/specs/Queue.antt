@@ -1,28 +1,25 @@
 -- An update that is for a primary whose replies have room for one more, and what is said of it.
-use Rattle.std.specs.Prelude.{◌≡◌, ◌<◌, ◌+◌, ℕ, true, false, List, [], ◌∷◌, length, slice_get, Some}
-use Rattle.dns_records.specs.Record.{Record}
+use Rattle.std.specs.Prelude.{◌≡◌, ◌+◌, ℕ, true, false, List, [], ◌∷◌, length, slice_get, Some}
 use Rattle.dns_wire.specs.Codes.{number_of_rcode}
 use Rattle.dns_request.specs.Codes.{rcode_servfail}
 use Rattle.dns_zone.specs.Zone.{Zone, soas}
 use Rattle.dns_changes.specs.Version.{serial_in}
 use Rattle.dns_sectors.specs.Device.{Content}
 use Rattle.dns_store.specs.Versions.{Kept, StandsStill}
-use Rattle.dns_versions.specs.declared.pending.PendingZone.{PendingZone}
+use Rattle.dns_versions.specs.declared.zone_versions.ZoneVersions.{ZoneVersions}
 use Rattle.dns_versions.specs.Each.{Each2}
-use Rattle.dns_versions.specs.Held.{newest_each, newest_zone}
-use Rattle.dns_update.specs.Verdict.{verdict}
+use Rattle.dns_versions.specs.Held.{newest_zone}
+use Rattle.dns_update.specs.Verdict.{Verdict, verdict}
 use Rattle.dns_primary.specs.declared.event.Waiting.{Waiting}
 use Rattle.dns_primary.specs.declared.primary.ZoneSpec.{ZoneSpec}
-use Rattle.dns_primary.specs.declared.queue.UpdateRequest.{UpdateRequest}
-use Rattle.dns_primary.specs.declared.queue.Tested.{Tested}
-use Rattle.dns_primary.specs.declared.queue.Tested.TheVariants.{AtOnce, Judged}
-use Rattle.dns_primary.specs.declared.update.Judgement.{Judgement}
+use Rattle.dns_primary.specs.declared.update.UpdateRequest.{UpdateRequest}
+use Rattle.dns_primary.specs.declared.update.Planned.{Planned}
 use Rattle.dns_primary.specs.declared.update.Outcome.{Outcome}
 use Rattle.dns_primary.specs.declared.update.Outcome.TheVariants as outcome
 use Rattle.dns_primary.specs.Machine.{ZoneState, Machine, Connection, kept_of}
 use Rattle.dns_primary.specs.Flush.{Sent}
 use Rattle.dns_primary.specs.Update.{Asked, Rejects, Admits, admission, replies, lacked_by}
-use Rattle.dns_primary.specs.Outcome.{HasLeft, IsVerdictOf, IsStageable, lacked_of}
+use Rattle.dns_primary.specs.Outcome.{HasLeft, IsPlannedBy, IsStageable, lacked_of}
 use Rattle.dns_primary.specs.Keeps.{HaveVersions, IsSet, IsWaiting}
 
 -- The update that the request is.
@@ -43,7 +40,7 @@ pub record IsOfNewest (k : Kept) (w : Waiting) : Type 0 where
 
 -- The machine has these zones, with what backs them, these pending replies, and those connections.
 pub record HoldsZones {I S : Type 0} (keeps : S → Kept → Type 0) (zones : List Zone)
-    (pending : List (PendingZone I S))
+    (pending : List (ZoneVersions I S))
     (settings : List ZoneSpec)
     (waiting : List Waiting) (connections : List Connection) (m : Machine) : Type 0 where
   pub zones_are : HaveVersions keeps zones pending m.zones
@@ -59,42 +56,28 @@ IsAnswered held m a ended (outcome.AtOnce rcode) =
     (ended.1 ≡ replies a (number_of_rcode rcode) ∷ []) × held ended.0
 IsAnswered held m a ended outcome.OutOfMemory = held m
 
--- What was judged before what came first still holds of the zone at the position: it is refused where the
--- zone is closed then, and else admitted, and the verdict on its newest version is the same. What came first
--- left room in its journal.
-pub record HoldsStill {X : Type 0} (records : X → List Record) (m : Machine) (a : Asked) (place : ℕ)
-    (j : Judgement X) : Type 0 where
+-- The verdict on an update of this zone, by its newest version.
+abbrev pub verdict_on : Asked → ZoneState → Verdict
+verdict_on a z = verdict (newest_zone (kept_of z)) a.message.answers a.message.authorities
+
+-- What was planned before what came first still holds of the zone at the index: the update is refused if the
+-- zone is closed then, and else admitted, and it comes to the same by the verdict on its newest version. What
+-- came first left room in its journal.
+pub record HoldsStill {X : Type 0} (m : Machine) (a : Asked) (index : ℕ) (p : Planned X) : Type 0 where
   pub zone : ZoneState
-  pub stands : slice_get m.zones place ≡ Some zone
+  pub stands : slice_get m.zones index ≡ Some zone
   pub shut : zone.closed ≡ true → admission m.zones a ≡ Rejects rcode_servfail
-  pub admits : zone.closed ≡ false → admission m.zones a ≡ Admits place zone
-  pub is : IsVerdictOf records
-      (verdict (newest_zone (kept_of zone)) a.message.answers a.message.authorities) j
-  pub left : zone.closed ≡ false
-      → HasLeft (kept_of zone)
-      (verdict (newest_zone (kept_of zone)) a.message.answers a.message.authorities)
+  pub admits : zone.closed ≡ false → admission m.zones a ≡ Admits index zone
+  pub is : IsPlannedBy (kept_of zone) (verdict_on a zone) p
+  pub left : zone.closed ≡ false → HasLeft (kept_of zone) (verdict_on a zone)
 
--- The update is judged, for the zone at the position.
-pub record IsUpdateJudged {X : Type 0} (records : X → List Record) (m : Machine) (a : Asked) (place : ℕ)
-    (j : Judgement X) : Type 0 where
+-- The update is planned, for the zone at the index.
+pub record IsUpdatePlanned {X : Type 0} (m : Machine) (a : Asked) (index : ℕ) (p : Planned X) : Type 0 where
   pub zone : ZoneState
-  pub admits : admission m.zones a ≡ Admits place zone
-  pub is : IsVerdictOf records
-      (verdict (newest_zone (kept_of zone)) a.message.answers a.message.authorities) j
-  pub lacks : lacked_of j ≡ lacked_by (kept_of zone)
-      (verdict (newest_zone (kept_of zone)) a.message.answers a.message.authorities)
+  pub admits : admission m.zones a ≡ Admits index zone
+  pub is : IsPlannedBy (kept_of zone) (verdict_on a zone) p
+  pub lacks : lacked_of p ≡ lacked_by (kept_of zone) (verdict_on a zone)
 
--- It is refused before, or judged so.
-abbrev pub IsTested : {X : Type 0} → (X → List Record) → Machine → Asked → Tested X → Type 0
-IsTested records m a (AtOnce rcode) = admission m.zones a ≡ Rejects (number_of_rcode rcode)
-IsTested records m a (Judged place j) = IsUpdateJudged records m a place j
-
--- What was judged may be staged after the newest version of the zone at the position.
-abbrev pub IsStageableAt : {X : Type 0} → (X → List Record) → List Zone → ℕ → Judgement X → Type 0
-IsStageableAt records newest place j = (v : Zone) → slice_get newest place ≡ Some v → IsStageable records v j
-
-abbrev pub IsReady : {X I S : Type 0} → (X → List Record) → List Zone → List (PendingZone I S) → Tested X
-    → Type 0
-IsReady records zones pending (AtOnce rcode) = Unit {0}
-IsReady records zones pending (Judged place j) =
-    (place < length zones) × IsStageableAt records (newest_each zones pending) place j
+-- What was planned may be staged after the newest version of the zone at the index.
+abbrev pub IsStageableAt : {X : Type 0} → List Zone → ℕ → Planned X → Type 0
+IsStageableAt newest index p = (v : Zone) → slice_get newest index ≡ Some v → IsStageable v p

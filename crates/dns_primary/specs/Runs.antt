@@ -87,7 +87,7 @@ Carries m (Arrives number octets) peer transport came =
     (peer_at number m.connections ≡ Some peer) × (transport ≡ Tcp) × (came ≡ octets)
 Carries m (Connect from) peer transport came = ⊥
 Carries m Flush peer transport came = ⊥
-Carries m (Checkpoint place) peer transport came = ⊥
+Carries m (Checkpoint index) peer transport came = ⊥
 Carries m (Pump number) peer transport came = ⊥
 Carries m (Closed number) peer transport came = ⊥
 
@@ -100,9 +100,9 @@ pub record Brings (m : Machine) (event : Event) (z : ZoneState) (update : Messag
   pub came : Carries m event peer transport octets
   pub question : Question
   pub asks : handled (shown_zones m) octets transport ≡ Update update question
-  pub place : ℕ
+  pub index : ℕ
   pub zone : ZoneState
-  pub there : slice_get m.zones place ≡ Some zone
+  pub there : slice_get m.zones index ≡ Some zone
   pub shape : zone.setting.shape ≡ z.setting.shape
   pub named : names_eq zone.setting.shape.apex question.name ≡ true
   pub allowed : zone.setting.may_update peer.address ≡ true
@@ -170,7 +170,7 @@ brings_update m (Datagram peer octets) = is_update (handled (shown_zones m) octe
 brings_update m (Arrives number octets) = arrived_update m (peer_at number m.connections) octets
 brings_update m (Connect peer) = false
 brings_update m Flush = false
-brings_update m (Checkpoint place) = false
+brings_update m (Checkpoint index) = false
 brings_update m (Pump number) = false
 brings_update m (Closed number) = false
 

@@ -40,7 +40,7 @@ pub record Effects : Type 0 where
 -- The first zone whose device failed.
 abbrev pub noted_of : Option ℕ → Noted
 noted_of None = Nothing
-noted_of (Some place) = Device place
+noted_of (Some index) = Device index
 
 -- The event leads to this machine, and these go out; of the devices these failed.
 pub record GivesEffects (effects : Effects) (new next : Machine)
@@ -67,11 +67,11 @@ pub record TellsFlush (effects : Effects) (out : List Sent) (first : Option ℕ)
 
 -- A checkpoint of a zone that isn't there does nothing.
 abbrev pub IsCheckpointed : List Bool → Machine → ℕ → Option ZoneState → Effects → Machine → Type 0
-IsCheckpointed fails old place None effects new = (fails ≡ []) × GivesEffects effects new old [] []
-IsCheckpointed fails old place (Some z) effects new =
-    (flushing : List Bool) × (moving : Bool) × (fails ≡ either_fails moving place flushing)
-    × IsCheckpoint place 0 old flushing moving new
-    × TellsFlush effects (flush_sends flushing old) (first_to_fail (first_true flushing) moving place)
+IsCheckpointed fails old index None effects new = (fails ≡ []) × GivesEffects effects new old [] []
+IsCheckpointed fails old index (Some z) effects new =
+    (flushing : List Bool) × (moving : Bool) × (fails ≡ either_fails moving index flushing)
+    × IsCheckpoint index 0 old flushing moving new
+    × TellsFlush effects (flush_sends flushing old) (first_to_fail (first_true flushing) moving index)
 
 -- What comes before an update is answered: where it lacks room, all zones are flushed, and the base of its
 -- own is moved so that the room is left; else there is a flush where as many replies wait as may.
@@ -136,8 +136,8 @@ Goes fails old (Connect peer) effects new = (fails ≡ []) × IsConnected old pe
 Goes fails old (Arrives number octets) effects new =
     IsArrived fails old number (peer_at number old.connections) octets effects new
 Goes fails old Flush effects new = IsFlushed fails old effects new
-Goes fails old (Checkpoint place) effects new =
-    IsCheckpointed fails old place (slice_get old.zones place) effects new
+Goes fails old (Checkpoint index) effects new =
+    IsCheckpointed fails old index (slice_get old.zones index) effects new
 Goes fails old (Pump number) effects new =
     (fails ≡ []) × IsPumped old number (sending_at number old.connections) effects.sent new
     × TellsFlush effects effects.sent None
@@ -161,7 +161,7 @@ failures m (Datagram peer octets) = failure (to.Address peer) octets
 failures m (Arrives number octets) = failure_on number (peer_at number m.connections) octets
 failures m (Connect peer) = []
 failures m Flush = []
-failures m (Checkpoint place) = []
+failures m (Checkpoint index) = []
 failures m (Pump number) = []
 failures m (Closed number) = []
 
@@ -171,7 +171,7 @@ takes_memory (Datagram peer octets) = true
 takes_memory (Connect peer) = false
 takes_memory (Arrives number octets) = true
 takes_memory Flush = false
-takes_memory (Checkpoint place) = true
+takes_memory (Checkpoint index) = true
 takes_memory (Pump number) = true
 takes_memory (Closed number) = false
 
@@ -194,7 +194,7 @@ checkpoint_first m (Datagram peer octets) =
 checkpoint_first m (Arrives number octets) = arrived_lacks m number (peer_at number m.connections) octets
 checkpoint_first m (Connect peer) = None
 checkpoint_first m Flush = None
-checkpoint_first m (Checkpoint place) = None
+checkpoint_first m (Checkpoint index) = None
 checkpoint_first m (Pump number) = None
 checkpoint_first m (Closed number) = None
 
@@ -220,7 +220,7 @@ flushes_first m (Arrives number octets) =
     || is_some (checkpoint_first m (Arrives number octets))
 flushes_first m (Connect peer) = false
 flushes_first m Flush = false
-flushes_first m (Checkpoint place) = is_some (slice_get m.zones place)
+flushes_first m (Checkpoint index) = is_some (slice_get m.zones index)
 flushes_first m (Pump number) = false
 flushes_first m (Closed number) = false
 
@@ -230,7 +230,7 @@ base_moved m (Datagram peer octets) = checkpoint_first m (Datagram peer octets)
 base_moved m (Arrives number octets) = checkpoint_first m (Arrives number octets)
 base_moved m (Connect peer) = None
 base_moved m Flush = None
-base_moved m (Checkpoint place) = Some (place, 0)
+base_moved m (Checkpoint index) = Some (index, 0)
 base_moved m (Pump number) = None
 base_moved m (Closed number) = None
 

@@ -7,13 +7,13 @@ use Rattle.dns_request.specs.Codes.{rcode_servfail}
 use Rattle.dns_request.specs.declared.request.Transport.{Transport}
 use Rattle.dns_wire.specs.Text.{text}
 use Rattle.dns_answer.specs.Answer.{Transfer, bare_reply, handled}
-use Rattle.dns_zone.specs.declared.index.ZoneIndex as index
+use Rattle.dns_zone.specs.declared.index.ZoneIndex as zone_index
 use Rattle.dns_store.specs.declared.zone_store.ZoneStore as store
 use Rattle.dns_sectors.specs.Device.{Content, LeavesOnly}
 use Rattle.dns_store.specs.Versions.{Shape, Opened, OpensAsLeft}
 use Rattle.dns_store.specs.declared.checkpoint.CheckpointError.{CheckpointError}
 use Rattle.dns_store.specs.declared.checkpoint.CheckpointError.TheVariants as refused
-use Rattle.dns_versions.specs.declared.pending.PendingZone.{PendingZone}
+use Rattle.dns_versions.specs.declared.zone_versions.ZoneVersions.{ZoneVersions}
 use Rattle.dns_versions.specs.Each.{Each3}
 use Rattle.dns_versions.specs.Flush.{FailedWhere}
 use Rattle.dns_versions.specs.Checkpoint.{OpensAsCheckpointed}
@@ -42,14 +42,14 @@ event_shown (event.Datagram peer octets) = machine.Datagram peer octets.now
 event_shown (event.Connect peer) = machine.Connect peer
 event_shown (event.Message number octets) = machine.Arrives number octets.now
 event_shown event.Flush = machine.Flush
-event_shown (event.Checkpoint place) = machine.Checkpoint place
+event_shown (event.Checkpoint index) = machine.Checkpoint index
 event_shown (event.Pump number) = machine.Pump number
 event_shown (event.Closed number) = machine.Closed number
 
 -- A crash at any moment between the two leaves each device so that it opens as the versions shown and the
 -- first of those staged.
-abbrev pub AtAnyMoment : {I S : Type 0} → store.Ghosts S → Machine → List (PendingZone I S)
-    → List (PendingZone I S) → Type 0
+abbrev pub AtAnyMoment : {I S : Type 0} → store.Ghosts S → Machine → List (ZoneVersions I S)
+    → List (ZoneVersions I S) → Type 0
 AtAnyMoment s m olds news =
     Each3 (λ a b k. LeavesOnly s.moment s.left_since a.store b.store (OpensAsLeft s.opens k)) olds news
     (map kept_of m.zones)
@@ -57,7 +57,7 @@ AtAnyMoment s m olds news =
 -- A primary took a step: these of the devices failed, which is said of each of them, the machine that it kept
 -- went on to the next one, which it keeps now, and the effects are reported. `step` says of a list of
 -- failures, effects and a machine that they are such a step.
-pub record Stepped {I S : Type 0} {i : index.Ghosts I} {s : store.Ghosts S} (m : Machine)
+pub record Stepped {I S : Type 0} {i : zone_index.Ghosts I} {s : store.Ghosts S} (m : Machine)
     (old new : Primary I S i s) (effects : Effects)
     (step : List Bool → machine.Effects → Machine → Type 0) : Type 0 where
   pub fails : List Bool
@@ -74,9 +74,9 @@ abbrev pub without_room : ZoneState → Option ℕ × ZoneState
 without_room z = (None, z)
 
 abbrev pub with_room : ℕ → ℕ → List ZoneState → List (Option ℕ × ZoneState)
-with_room place room [] = []
+with_room index room [] = []
 with_room zero room (z ∷ rest) = (Some room, z) ∷ map without_room rest
-with_room (suc place) room (z ∷ rest) = (None, z) ∷ with_room place room rest
+with_room (suc index) room (z ∷ rest) = (None, z) ∷ with_room index room rest
 
 abbrev pub with_rooms : Option (ℕ × ℕ) → List ZoneState → List (Option ℕ × ZoneState)
 with_rooms None zones = map without_room zones
@@ -90,7 +90,7 @@ OpensAsEvent opens (Some room) z c = OpensAsCheckpointed opens z.setting.keep ro
 
 -- A crash at any moment between the two leaves each device so that it opens as that.
 abbrev pub AtAnyMomentOf : {I S : Type 0}
-    → store.Ghosts S → Option (ℕ × ℕ) → Machine → List (PendingZone I S) → List (PendingZone I S) → Type 0
+    → store.Ghosts S → Option (ℕ × ℕ) → Machine → List (ZoneVersions I S) → List (ZoneVersions I S) → Type 0
 AtAnyMomentOf s moved m olds news =
     Each3 (λ a b k. LeavesOnly s.moment s.left_since a.store b.store (OpensAsEvent s.opens k.0 k.1)) olds news
     (with_rooms moved m.zones)
@@ -98,7 +98,7 @@ AtAnyMomentOf s moved m olds news =
 -- A primary took a step that may move the base of this zone, leaving that room: these of the devices failed,
 -- which is said of each of them; at each moment a crash left each device as that allows; the machine that it
 -- kept went on to the next one, which it keeps now, and the effects are reported.
-pub record SteppedOn {I S : Type 0} {i : index.Ghosts I} {s : store.Ghosts S} (m : Machine)
+pub record SteppedOn {I S : Type 0} {i : zone_index.Ghosts I} {s : store.Ghosts S} (m : Machine)
     (moved : Option (ℕ × ℕ)) (old new : Primary I S i s) (effects : Effects)
     (step : List Bool → machine.Effects → Machine → Type 0) : Type 0 where
   pub fails : List Bool
@@ -111,7 +111,7 @@ pub record SteppedOn {I S : Type 0} {i : index.Ghosts I} {s : store.Ghosts S} (m
   pub kept : IsKept new next
 
 -- A primary took the step of an event.
-abbrev pub SteppedBy : {I S : Type 0} {i : index.Ghosts I} {s : store.Ghosts S} → Machine → machine.Event
+abbrev pub SteppedBy : {I S : Type 0} {i : zone_index.Ghosts I} {s : store.Ghosts S} → Machine → machine.Event
     → Primary I S i s → Primary I S i s → Effects → Type 0
 SteppedBy m event old new effects =
     SteppedOn m (machine.base_moved m event) old new effects
@@ -119,15 +119,15 @@ SteppedBy m event old new effects =
 
 -- What is noted where a device failed that came after others.
 abbrev pub noted_then : Noted → ℕ → Noted
-noted_then Nothing place = Device place
-noted_then OutOfMemory place = OutOfMemory
-noted_then (Device earlier) place = Device earlier
+noted_then Nothing index = Device index
+noted_then OutOfMemory index = OutOfMemory
+noted_then (Device earlier) index = Device earlier
 
 abbrev pub noted_moved : {T : Type 0} → Noted → ℕ → Result T CheckpointError → Noted
-noted_moved noted place (Ok v) = noted
-noted_moved noted place (Err refused.Device) = noted_then noted place
-noted_moved noted place (Err refused.Closed) = noted
-noted_moved noted place (Err refused.OutOfMemory) = OutOfMemory
+noted_moved noted index (Ok v) = noted
+noted_moved noted index (Err refused.Device) = noted_then noted index
+noted_moved noted index (Err refused.Closed) = noted
+noted_moved noted index (Err refused.OutOfMemory) = OutOfMemory
 
 -- Nothing goes out; or one reply alone.
 abbrev pub nothing : machine.Effects

@@ -9,13 +9,13 @@ use Rattle.dns_primary.specs.Step.{Event, base_moved}
 
 -- The event moves the base of the zone at this position, so that so much room is left.
 abbrev pub Checkpoints : Machine → Event → ℕ → ℕ → Type 0
-Checkpoints m event place room = base_moved m event ≡ Some (place, room)
+Checkpoints m event index room = base_moved m event ≡ Some (index, room)
 
 -- The base that the event is making of the zone at this position, which isn't closed.
 abbrev pub IsMaking : Machine → Event → ℕ → ZoneState → ℕ → Type 0
-IsMaking m event place z base =
+IsMaking m event index z base =
     (z.closed ≡ false)
-    × ((room : ℕ) × Checkpoints m event place room × IsNextBaseNumber z.setting.keep room (kept_of z) base)
+    × ((room : ℕ) × Checkpoints m event index room × IsNextBaseNumber z.setting.keep room (kept_of z) base)
 
 -- A zone as it is opened again: it shows the version that was shown and some of the updates staged after it,
 -- in order, and begins at its base, at the second one left by a checkpoint that failed, or at one that is
@@ -37,12 +37,12 @@ pub record IsRecovered (least most : ℕ) (making : ℕ → Type 0) (old new : Z
 
 -- Each zone is, those from this position on.
 abbrev pub AreRecovered : ℕ → ℕ → Machine → Event → ℕ → List ZoneState → List ZoneState → Type 0
-AreRecovered least most m event place [] [] = Unit {0}
-AreRecovered least most m event place (z ∷ old) (w ∷ new) =
-    IsRecovered least most (IsMaking m event place z) z w
-    × AreRecovered least most m event (suc place) old new
-AreRecovered least most m event place [] (w ∷ new) = ⊥
-AreRecovered least most m event place (z ∷ old) [] = ⊥
+AreRecovered least most m event index [] [] = Unit {0}
+AreRecovered least most m event index (z ∷ old) (w ∷ new) =
+    IsRecovered least most (IsMaking m event index z) z w
+    × AreRecovered least most m event (suc index) old new
+AreRecovered least most m event index [] (w ∷ new) = ⊥
+AreRecovered least most m event index (z ∷ old) [] = ⊥
 
 -- The machine stopped within the event, which has no effects, and was opened again, after so many tries that
 -- were stopped or refused.

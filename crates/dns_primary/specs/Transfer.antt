@@ -47,7 +47,7 @@ transfer_version z = record {
 -- The first zone with this apex.
 abbrev pub zone_at : List ZoneState → Option ℕ → Option ZoneState
 zone_at zones None = None
-zone_at zones (Some place) = slice_get zones place
+zone_at zones (Some index) = slice_get zones index
 
 abbrev pub zone_named : Labels → List ZoneState → Option ZoneState
 zone_named apex zones = zone_at zones (zone_position apex zones)

@@ -46,15 +46,15 @@ pub data Admission : Type 0 where
 
 -- The address, and whether the zone is closed.
 abbrev pub admission_in : IpAddr → ℕ → Option ZoneState → Admission
-admission_in address place None = Rejects rcode_notauth
-admission_in address place (Some z) =
+admission_in address index None = Rejects rcode_notauth
+admission_in address index (Some z) =
     if not (z.setting.may_update address) then Rejects rcode_refused
     else if z.closed then Rejects rcode_servfail
-    else Admits place z
+    else Admits index z
 
 abbrev pub admission_at : List ZoneState → IpAddr → Option ℕ → Admission
 admission_at zones address None = Rejects rcode_notauth
-admission_at zones address (Some place) = admission_in address place (slice_get zones place)
+admission_at zones address (Some index) = admission_in address index (slice_get zones index)
 
 -- The type of the zone that is named, its class and its apex, then as above.
 abbrev pub admission : List ZoneState → Asked → Admission
@@ -69,14 +69,14 @@ newest_serial z = serial_in (soas (newest_zone (kept_of z)).records)
 
 -- The reply waits, with the serial and the updates of its zone.
 abbrev pub waits : Machine → Asked → ℕ → ℕ → ℕ → List Made → Machine
-waits m a place rcode serial updates =
+waits m a index rcode serial updates =
     record m {
       waiting = m.waiting ++ record {
         to = a.to;
         address = a.address;
         header = a.message.header;
         rcode = rcode;
-        zone = place;
+        zone = index;
         serial = serial;
         updates = updates;
       } ∷ [];
@@ -87,9 +87,9 @@ with_staged made z = record z { staged = z.staged ++ made ∷ [] }
 
 -- The update is staged after the newest version, and its reply waits.
 abbrev pub stages : Machine → Asked → ℕ → ZoneState → List Record → Machine
-stages m a place z records =
+stages m a index z records =
     let made : Made = record { update = a.message; records = records } in
-    waits (record m { zones = slice_set m.zones place (with_staged made z) }) a place 0
+    waits (record m { zones = slice_set m.zones index (with_staged made z) }) a index 0
     (newest_serial (with_staged made z)) (updates_of (with_staged made z))
 
 -- The reply goes out at once.
@@ -99,22 +99,22 @@ replies a rcode = Replied a.to (text (bare_reply a.message.header rcode))
 -- An accepted update is staged. One for which there is no room is refused, and its reply waits. (The entry of
 -- the first fits in what is left of the journal, by what came before.)
 abbrev pub accepted_in : Machine → Asked → ℕ → ZoneState → List Record → Machine × List Sent
-accepted_in m a place z records =
-    if has_room (kept_of z) records then (stages m a place z records, [])
-    else (waits m a place rcode_servfail (newest_serial z) (updates_of z), [])
+accepted_in m a index z records =
+    if has_room (kept_of z) records then (stages m a index z records, [])
+    else (waits m a index rcode_servfail (newest_serial z) (updates_of z), [])
 
 -- What is judged waits, whether or not it changes the zone.
 abbrev pub judged_in : Machine → Asked → ℕ → ZoneState → Verdict → Machine × List Sent
-judged_in m a place z (Refuses rcode) =
-    (waits m a place (number_of_rcode rcode) (newest_serial z) (updates_of z), [])
-judged_in m a place z Keeps = (waits m a place 0 (newest_serial z) (updates_of z), [])
-judged_in m a place z (Leaves records) = accepted_in m a place z records
+judged_in m a index z (Refuses rcode) =
+    (waits m a index (number_of_rcode rcode) (newest_serial z) (updates_of z), [])
+judged_in m a index z Keeps = (waits m a index 0 (newest_serial z) (updates_of z), [])
+judged_in m a index z (Leaves records) = accepted_in m a index z records
 
 -- It is judged on the newest version.
 abbrev pub admitted : Machine → Asked → Admission → Machine × List Sent
 admitted m a (Rejects rcode) = (m, replies a rcode ∷ [])
-admitted m a (Admits place z) =
-    judged_in m a place z (verdict (newest_zone (kept_of z)) a.message.answers a.message.authorities)
+admitted m a (Admits index z) =
+    judged_in m a index z (verdict (newest_zone (kept_of z)) a.message.answers a.message.authorities)
 
 -- As many wait as may.
 abbrev pub is_full : Machine → Bool
@@ -135,8 +135,8 @@ lacked_by k (Leaves records) = sectors_lacked k records
 -- comes first that leaves them. No flush before it changes the newest version or what is left.
 abbrev pub lacked_at : Asked → Admission → Option (ℕ × ℕ)
 lacked_at a (Rejects rcode) = None
-lacked_at a (Admits place z) =
-    option_map (λ sectors. (place, sectors))
+lacked_at a (Admits index z) =
+    option_map (λ sectors. (index, sectors))
     (lacked_by (kept_of z) (verdict (newest_zone (kept_of z)) a.message.answers a.message.authorities))
 
 abbrev pub room_lacked : Machine → Asked → Option (ℕ × ℕ)

@@ -15,7 +15,7 @@ use dns_names::{Name, NameRef};
 use dns_policy::allows;
 use dns_records::types::{CLASS_IN, SOA};
 use dns_store::ZoneStore;
-use dns_versions::PendingZone;
+use dns_versions::ZoneVersions;
 use dns_wire::{QuestionView, Rcode};
 use dns_zone::{Zone, ZoneIndex};
 use std::net::IpAddr;
@@ -29,8 +29,8 @@ fn has_apex<I: ZoneIndex>(zone: &Zone<I>, apex: &NameRef<'_>) -> bool
 
 /// The position of the first zone of that apex.
 pub(crate) fn place_of<I: ZoneIndex>(zones: &[Zone<I>], apex: &NameRef<'_>) -> Option<usize>
-    ensures place { result ≡ position (λ z. names_eq z.apex apex.now) zones.now }
-    ensures inside { IfSome result (λ place. place < length zones.now) }
+    ensures index { result ≡ position (λ z. names_eq z.apex apex.now) zones.now }
+    ensures inside { IfSome result (λ index. index < length zones.now) }
 {
     zones.iter().position(|zone| has_apex(zone, apex))
 }
@@ -38,14 +38,14 @@ pub(crate) fn place_of<I: ZoneIndex>(zones: &[Zone<I>], apex: &NameRef<'_>) -> O
 /// Whether a zone may be updated from that address now: REFUSED for an address that its list doesn't allow,
 /// then SERVFAIL where it is closed.
 fn admit_in<I: ZoneIndex, S: ZoneStore>(
-    pending: &PendingZone<I, S>,
+    pending: &ZoneVersions<I, S>,
     settings: &ZoneSpec,
     address: IpAddr,
 ) -> Result<(), Rcode>
-    ensures { (place : ℕ) (zone : Stated) (z : ZoneState)
+    ensures { (index : ℕ) (zone : Stated) (z : ZoneState)
         → HasVersions S.keeps zone pending.now (kept_of z)
         → IsSet settings.now z
-        → admission_of_test place z result ≡ admission_in address place (Some z) }
+        → admission_of_test index z result ≡ admission_in address index (Some z) }
 {
     if !allows(&settings.update, address) {
         return Err(Rcode::Refused);
@@ -65,7 +65,7 @@ fn admit_in<I: ZoneIndex, S: ZoneStore>(
 /// - It is closed: SERVFAIL.
 pub(crate) fn admit<I: ZoneIndex, S: ZoneStore>(
     zones: &[Zone<I>],
-    pending: &[PendingZone<I, S>],
+    pending: &[ZoneVersions<I, S>],
     settings: &[ZoneSpec],
     question: &QuestionView<'_>,
     name: &Name,
@@ -80,7 +80,7 @@ pub(crate) fn admit<I: ZoneIndex, S: ZoneStore>(
         → a.zone ≡ question.now
         → a.address ≡ address
         → admission_shown states result ≡ admission states a }
-    ensures inside { IfOk result (λ place. place < length zones.now) }
+    ensures inside { IfOk result (λ index. index < length zones.now) }
 {
     if question.qtype() != SOA {
         return Err(Rcode::FormErr);
@@ -90,8 +90,8 @@ pub(crate) fn admit<I: ZoneIndex, S: ZoneStore>(
     }
     match place_of(zones, &name.lend()) {
         None => Err(Rcode::NotAuth),
-        Some(place) => match admit_in(&pending[place], &settings[place], address) {
-            Ok(()) => Ok(place),
+        Some(index) => match admit_in(&pending[index], &settings[index], address) {
+            Ok(()) => Ok(index),
             Err(rcode) => Err(rcode),
         },
     }

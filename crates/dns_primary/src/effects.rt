@@ -11,8 +11,7 @@ ghost use Rattle.dns_primary.specs.Keeps.{AreEffects};
 ghost use Rattle.dns_primary.specs.Queue.{asked_of};
 ghost use Rattle.dns_primary.specs.Steps.{answered_with, lack_reply, nothing, one_reply};
 
-use crate::queue::UpdateRequest;
-use crate::update::Outcome;
+use crate::update::{Outcome, UpdateRequest};
 use crate::{Effects, Noted, Reply, ReplyOctets, To};
 use dns_answer::header_only;
 use dns_memory::Heap;

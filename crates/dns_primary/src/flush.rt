@@ -1,6 +1,9 @@
 //! The flush of all zones, and of the replies that waited for it.
-ghost use Rattle.std.specs.Prelude.{◌≡◌, ◌<◌, ◌≤◌, ◌+◌, ◌++◌, List, [], Bool, map, length, slice_get};
+ghost use Rattle.std.specs.Prelude.{◌≡◌, ◌≢◌, ◌<◌, ◌≤◌, ◌+◌, ◌++◌, List, [], None, Bool, map, length, slice_get};
 ghost use Rattle.std.specs.Prelude.{vec_capacity, if◌then◌else◌};
+ghost use Rattle.dns_primary.specs.declared.event.Noted.TheVariants.{OutOfMemory as StatedLack};
+ghost use Rattle.dns_primary.specs.Step.{IsFlushed, noted_of};
+ghost use Rattle.dns_primary.specs.Steps.{Stepped};
 ghost use Rattle.dns_zone.specs.Zone.{Zone as Stated};
 ghost use Rattle.dns_sectors.specs.Device.{LeavesOnly};
 ghost use Rattle.dns_store.specs.Versions.{Kept, OpensAsLeft};
@@ -13,24 +16,25 @@ ghost use Rattle.dns_primary.specs.Flush.{is_closed_in, released};
 ghost use Rattle.dns_wire.specs.Text.{text};
 ghost use Rattle.dns_request.specs.Codes.{rcode_servfail};
 ghost use Rattle.dns_answer.specs.Answer.{bare_reply};
-ghost use Rattle.dns_primary.specs.Keeps.{HaveVersions, IsWaiting, header_out};
+ghost use Rattle.dns_primary.specs.Keeps.{HaveVersions, IsKept, IsWaiting, header_out};
 
-use crate::{HeaderTo, Waiting};
+use crate::{Effects, HeaderTo, Noted, Primary, Waiting};
 use arrayvec::ArrayVec;
 use dns_answer::header_only;
 use dns_memory::Heap;
 use dns_store::ZoneStore;
-use dns_versions::{PendingZone, flush_all};
+use dns_versions::{ZoneVersions, flush_all};
 use dns_wire::Rcode;
 use dns_zone::{Zone, ZoneIndex};
+use std::mem;
 
 /// Whether the zone at a position is closed, or there is none.
-fn is_closed_at<I: ZoneIndex, S: ZoneStore>(pending: &[PendingZone<I, S>], place: usize) -> bool
+fn is_closed_at<I: ZoneIndex, S: ZoneStore>(pending: &[ZoneVersions<I, S>], index: usize) -> bool
     ensures { (shown : List Stated) (zones : List ZoneState)
         → HaveVersions S.keeps shown pending.now zones
-        → result ≡ is_closed_in (slice_get zones place) }
+        → result ≡ is_closed_in (slice_get zones index) }
 {
-    match pending.get(place) {
+    match pending.get(index) {
         Some(zone) => zone.store.is_closed(),
         None => true,
     }
@@ -38,7 +42,7 @@ fn is_closed_at<I: ZoneIndex, S: ZoneStore>(pending: &[PendingZone<I, S>], place
 
 /// The octets of a reply that waited.
 fn released_octets<I: ZoneIndex, S: ZoneStore>(
-    pending: &[PendingZone<I, S>],
+    pending: &[ZoneVersions<I, S>],
     waiting: &Waiting,
 ) -> [u8; 12]
     ensures { (shown : List Stated) (zones : List ZoneState) (w : Waits)
@@ -58,7 +62,7 @@ fn released_octets<I: ZoneIndex, S: ZoneStore>(
 
 /// Lets a reply that waited go out, unless it goes nowhere.
 fn release<I: ZoneIndex, S: ZoneStore>(
-    pending: &[PendingZone<I, S>],
+    pending: &[ZoneVersions<I, S>],
     waiting: &Waiting,
     headers: &mut Vec<HeaderTo, Heap>,
 )
@@ -85,7 +89,7 @@ fn release<I: ZoneIndex, S: ZoneStore>(
 
 /// Releases the pending replies, for each of which there is a place.
 fn release_all<I: ZoneIndex, S: ZoneStore>(
-    pending: &[PendingZone<I, S>],
+    pending: &[ZoneVersions<I, S>],
     waiting: &ArrayVec<Waiting, 32>,
     headers: &mut Vec<HeaderTo, Heap>,
 )
@@ -108,9 +112,9 @@ fn release_all<I: ZoneIndex, S: ZoneStore>(
 
 /// Flushes all zones, and releases the pending replies, for each of which there is a place. Gives the first
 /// zone whose device failed.
-pub(crate) fn flush<I: ZoneIndex, S: ZoneStore>(
+fn flush_zones<I: ZoneIndex, S: ZoneStore>(
     zones: &mut [Zone<I>],
-    pending: &mut [PendingZone<I, S>],
+    pending: &mut [ZoneVersions<I, S>],
     waiting: &mut ArrayVec<Waiting, 32>,
     headers: &mut Vec<HeaderTo, Heap>,
 ) -> Option<usize>
@@ -137,4 +141,47 @@ pub(crate) fn flush<I: ZoneIndex, S: ZoneStore>(
     release_all(pending, waiting, headers);
     waiting.clear();
     failed
+}
+
+/// The first device that failed, as it is noted.
+fn noted(failed: Option<usize>) -> Noted
+    ensures value { result ≡ noted_of failed }
+    ensures memory { result ≢ StatedLack }
+{
+    match failed {
+        Some(index) => Noted::Device(index),
+        None => Noted::Nothing,
+    }
+}
+
+impl<I: ZoneIndex, S: ZoneStore> Primary<I, S> {
+    /// Makes durable what was staged, shows it, and lets go out what waits for it: SERVFAIL where a zone's
+    /// device failed. It takes no memory.
+    pub fn flush(&mut self) -> Effects
+        // Whatever older versions there were, it is the step of the machine, and a crash at any moment of it
+        // leaves each device so that it opens as the versions shown and the first of those staged.
+        ensures step { (old : Machine) → IsKept self.old old
+            → Stepped old self.old self.new result (λ fails stated next. IsFlushed fails old stated next) }
+        ensures bare { result.message ≡ None }
+        ensures as_many { length self.new.pending.items ≡ length self.old.pending.items }
+        ensures newest { newest_each self.new.zones.items self.new.pending.items
+            ≡ newest_each self.old.zones.items self.old.pending.items }
+        ensures empty { self.new.waiting.items ≡ [] }
+        ensures memory { result.noted ≢ StatedLack }
+    {
+        let none = Vec::new(*self.places.allocator());
+        let mut headers = mem::replace(&mut self.places, none);
+        let failed = flush_zones(
+            &mut self.zones,
+            &mut self.pending,
+            &mut self.waiting,
+            &mut headers,
+        );
+        Effects {
+            headers,
+            message: None,
+            accepted: None,
+            noted: noted(failed),
+        }
+    }
 }

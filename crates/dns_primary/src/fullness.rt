@@ -26,12 +26,12 @@ pub struct Fullness {
 
 impl<I: ZoneIndex, S: ZoneStore> Primary<I, S> {
     /// How full the store of the zone at an index is, or nothing if there is no such zone.
-    pub fn fullness(&self, place: usize) -> Option<Fullness>
+    pub fn fullness(&self, index: usize) -> Option<Fullness>
         ensures { (m : Machine) → IsKept self.now m
-            → MatchOption result (slice_get m.zones place ≡ None)
-            (λ f. IsFullness f (slice_get m.zones place)) }
+            → MatchOption result (slice_get m.zones index ≡ None)
+            (λ f. IsFullness f (slice_get m.zones index)) }
     {
-        match self.pending.get(place) {
+        match self.pending.get(index) {
             Some(pending) => Some(Fullness {
                 snapshot_taken: snapshot_sectors(pending.octets),
                 snapshot_sectors: pending.snapshot,

@@ -58,11 +58,11 @@ pub fn flush_law()
 /// shown and some of the updates staged after it, in order, and a base that it had or that the event was
 /// making.
 pub fn stop_law()
-    ensures left { (m : Machine) (event : StatedEvent) (place : ℕ) (z : ZoneState) (c : List (List ℕ))
-        → OpensAsLeft opens (kept_of z) c → OpensAsRecovered opens 0 (IsMaking m event place z) z c }
-    ensures moved { (m : Machine) (event : StatedEvent) (place room : ℕ) (z : ZoneState) (c : List (List ℕ))
-        → Checkpoints m event place room → OpensAsCheckpointed opens z.setting.keep room (kept_of z) c
-        → OpensAsRecovered opens 0 (IsMaking m event place z) z c }
+    ensures left { (m : Machine) (event : StatedEvent) (index : ℕ) (z : ZoneState) (c : List (List ℕ))
+        → OpensAsLeft opens (kept_of z) c → OpensAsRecovered opens 0 (IsMaking m event index z) z c }
+    ensures moved { (m : Machine) (event : StatedEvent) (index room : ℕ) (z : ZoneState) (c : List (List ℕ))
+        → Checkpoints m event index room → OpensAsCheckpointed opens z.setting.keep room (kept_of z) c
+        → OpensAsRecovered opens 0 (IsMaking m event index z) z c }
 {}
 
 /// The reply to an update that was judged goes out at a later event than it was judged at, with the code of

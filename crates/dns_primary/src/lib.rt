@@ -11,12 +11,10 @@ mod fullness;
 mod laws;
 mod open;
 mod primary;
-mod queue;
 mod serve;
 mod step;
 mod transfers;
 mod update;
-mod waits;
 
 pub use event::{Effects, Event, HeaderTo, Noted, Peer, Reply, ReplyOctets, To, Waiting};
 pub use fullness::Fullness;

@@ -22,14 +22,14 @@ use dns_memory::Heap;
 use dns_names::Name;
 use dns_sectors::Sectors;
 use dns_store::{KeptStore, OpenError, ZoneStore, open, snapshot_len};
-use dns_versions::PendingZone;
+use dns_versions::ZoneVersions;
 use dns_zone::{Zone, ZoneIndex};
 
 /// Why a primary was not opened, and all devices, in the order in which they came.
 #[derive(Drop)]
 pub struct NotOpened<D> {
     /// The position of the zone whose store was refused, or 0 where memory was refused before any was opened.
-    pub place: usize,
+    pub index: usize,
     /// What its store was refused for.
     pub error: OpenError,
     /// All devices, those that were opened before too.
@@ -40,20 +40,20 @@ pub struct NotOpened<D> {
 #[derive(Drop)]
 struct OneOpened<D: Sectors + Drop, I: ZoneIndex> {
     zone: Zone<I>,
-    pending: PendingZone<I, KeptStore<D, I>>,
+    pending: ZoneVersions<I, KeptStore<D, I>>,
 }
 
 // All zones, with their devices.
 #[derive(Drop)]
 struct AllOpened<D: Sectors + Drop, I: ZoneIndex> {
     zones: Vec<Zone<I>, Heap>,
-    pending: Vec<PendingZone<I, KeptStore<D, I>>, Heap>,
+    pending: Vec<ZoneVersions<I, KeptStore<D, I>>, Heap>,
 }
 
 // The position of the zone that was refused, and why.
 #[derive(Clone, Copy)]
 struct Refusal {
-    place: usize,
+    index: usize,
     error: OpenError,
 }
 
@@ -69,7 +69,7 @@ fn open_one<D: Sectors + Drop, I: ZoneIndex>(
 {
     match open(alloc, device, apex, own.snapshot, own.journal) {
         Ok((store, zone)) => {
-            let pending = PendingZone {
+            let pending = ZoneVersions {
                 tip: None,
                 number: store.newest(),
                 store,
@@ -86,14 +86,14 @@ fn open_one<D: Sectors + Drop, I: ZoneIndex>(
 // Puts the devices of opened zones before the others again.
 fn take_back<D: Sectors + Drop, I: ZoneIndex>(
     devices: &mut Vec<D, Heap>,
-    pending: Vec<PendingZone<I, KeptStore<D, I>>, Heap>,
+    pending: Vec<ZoneVersions<I, KeptStore<D, I>>, Heap>,
 )
     requires { length pending.items + length devices.old.items ≤ vec_capacity devices.old }
     ensures { devices.new.items ≡ map (λ b. device_of_pending b) pending.entry.items ++ devices.old.items }
 {
     let mut pending = pending;
     while let Some(last) = pending.pop() {
-        let PendingZone {
+        let ZoneVersions {
             tip: _,
             store,
             number: _,
@@ -120,11 +120,11 @@ fn open_all<D: Sectors + Drop, I: ZoneIndex>(
     ensures { MatchResult result
         (λ r. AreOpened (length settings.now) apexes.now settings.now devices.old.items
         r.zones.items r.pending.items)
-        (λ e. AreRefused D.Sectors e.error e.place apexes.now settings.now devices.old.items
+        (λ e. AreRefused D.Sectors e.error e.index apexes.now settings.now devices.old.items
         devices.new.items) }
 {
     let refused = Refusal {
-        place: 0,
+        index: 0,
         error: OpenError::OutOfMemory,
     };
     let Ok(mut zones) = Vec::with_capacity(alloc, settings.len()) else {
@@ -133,9 +133,9 @@ fn open_all<D: Sectors + Drop, I: ZoneIndex>(
     let Ok(mut pending) = Vec::with_capacity(alloc, settings.len()) else {
         return Err(refused);
     };
-    for place in 0..settings.len() {
+    for index in 0..settings.len() {
         let device = devices.remove(0);
-        match open_one(alloc, device, &apexes[place], &settings[place]) {
+        match open_one(alloc, device, &apexes[index], &settings[index]) {
             Ok(one) => {
                 zones.push_reserved(one.zone);
                 pending.push_reserved(one.pending);
@@ -146,7 +146,7 @@ fn open_all<D: Sectors + Drop, I: ZoneIndex>(
                     Err(_) => unreachable!(),
                 }
                 take_back(devices, pending);
-                return Err(Refusal { place, error });
+                return Err(Refusal { index, error });
             }
         }
     }
@@ -174,14 +174,14 @@ impl<D: Sectors + Drop, I: ZoneIndex> Primary<I, KeptStore<D, I>> {
             → AreDevicesOf D.Sectors tries m event apexes.now settings.entry.items devices.entry.items
             → MatchResult result (λ p. (new : Machine) × IsStopped tries m event new × IsKept p new)
             (λ e. AreDevicesOf D.Sectors (suc tries) m event apexes.now settings.entry.items e.devices.items
-            × IsRecoveryStopped tries e.error e.place m.zones) }
+            × IsRecoveryStopped tries e.error e.index m.zones) }
         // Where it had other settings, it is that machine, which was then given these.
         ensures configured { (m : Machine) (event : StatedEvent) (tries : ℕ)
             → AreDevicesAnew D.Sectors tries m event apexes.now settings.entry.items devices.entry.items
             → MatchResult result
             (λ p. (old new : Machine) × IsStopped tries m event old × IsConfigured old new × IsKept p new)
             (λ e. AreDevicesAnew D.Sectors (suc tries) m event apexes.now settings.entry.items e.devices.items
-            × IsRecoveryStopped tries e.error e.place m.zones) }
+            × IsRecoveryStopped tries e.error e.index m.zones) }
         // A crash at any moment of it leaves each device as one that a crash might have left before.
         ensures any_moment { (m : Machine) (event : StatedEvent) (tries : ℕ)
             → AreDevicesAnew D.Sectors tries m event apexes.now settings.entry.items devices.entry.items
@@ -197,12 +197,12 @@ impl<D: Sectors + Drop, I: ZoneIndex> Primary<I, KeptStore<D, I>> {
             (AreAllOpened apexes.now settings.entry.items devices.entry.items) }
         // Why it is refused, on any devices.
         ensures refused { IfErr result
-            (λ e. AreRefused D.Sectors e.error e.place apexes.now settings.entry.items
+            (λ e. AreRefused D.Sectors e.error e.index apexes.now settings.entry.items
             devices.entry.items e.devices.items) }
     {
         let Ok(connections) = no_connections(alloc) else {
             return Err(NotOpened {
-                place: 0,
+                index: 0,
                 error: OpenError::OutOfMemory,
                 devices,
             });
@@ -219,7 +219,7 @@ impl<D: Sectors + Drop, I: ZoneIndex> Primary<I, KeptStore<D, I>> {
                 transfers: Vec::new(alloc),
             }),
             Err(refusal) => Err(NotOpened {
-                place: refusal.place,
+                index: refusal.index,
                 error: refusal.error,
                 devices,
             }),
@@ -235,7 +235,7 @@ impl<D: Sectors + Drop, I: ZoneIndex> Primary<I, KeptStore<D, I>> {
 
     /// The stores of all zones, in the order in which their devices came. It takes no memory. What was staged
     /// is lost, as by a stop.
-    pub fn into_stores(self) -> Vec<PendingZone<I, KeptStore<D, I>>, Heap>
+    pub fn into_stores(self) -> Vec<ZoneVersions<I, KeptStore<D, I>>, Heap>
         ensures handed_out { map (λ b. device_of_pending b) result.items ≡ devices_of self }
         // Between two events: a machine that it keeps, which stops here.
         ensures at_rest { (m : Machine) (event : StatedEvent) (apexes : List Labels)

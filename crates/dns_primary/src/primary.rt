@@ -1,5 +1,5 @@
 //! What a primary keeps.
-ghost use Rattle.std.specs.Prelude.{◌≡◌, ◌≤◌, [], length, vec_capacity};
+ghost use Rattle.std.specs.Prelude.{◌≡◌, ◌≤◌, ◌==◌, [], length, not, vec_capacity};
 ghost use Rattle.dns_primary.specs.Connections.{most_connections};
 
 use crate::transfers::OpenTransfer;
@@ -8,7 +8,7 @@ use arrayvec::ArrayVec;
 use dns_memory::Heap;
 use dns_policy::Prefix;
 use dns_store::ZoneStore;
-use dns_versions::PendingZone;
+use dns_versions::ZoneVersions;
 use dns_zone::{Zone, ZoneIndex};
 use slab::Slab;
 
@@ -32,7 +32,7 @@ pub struct ZoneSpec {
 #[derive(Drop)]
 pub struct Primary<I: ZoneIndex, S: ZoneStore> {
     pub(crate) zones: Vec<Zone<I>, Heap>,
-    pub(crate) pending: Vec<PendingZone<I, S>, Heap>,
+    pub(crate) pending: Vec<ZoneVersions<I, S>, Heap>,
     pub(crate) settings: Vec<ZoneSpec, Heap>,
     pub(crate) waiting: ArrayVec<Waiting, 32>,
     // Empty, with a place for each pending reply: a flush hands it out.
@@ -45,4 +45,13 @@ pub struct Primary<I: ZoneIndex, S: ZoneStore> {
     ghost reserved: { length waiting.items ≤ vec_capacity places },
     // A new number is below the capacity of the slab.
     ghost room: { connections.capacity ≡ most_connections },
+}
+
+impl<I: ZoneIndex, S: ZoneStore> Primary<I, S> {
+    /// Whether a reply waits for a flush.
+    pub fn has_waiting(&self) -> bool
+        ensures { result ≡ not (length self.now.waiting.items == 0) }
+    {
+        !self.waiting.is_empty()
+    }
 }

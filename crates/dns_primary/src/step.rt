@@ -1,66 +1,22 @@
 //! The events, one step each.
-ghost use Rattle.std.specs.Prelude.{◌≡◌, ◌≢◌, ◌<◌, ◌≤◌, ℕ, [], false, None, Some, MatchOption};
+ghost use Rattle.std.specs.Prelude.{◌≡◌, ◌≢◌, ◌<◌, ◌≤◌, ℕ, false, None, Some, MatchOption};
 ghost use Rattle.std.specs.Prelude.{length, slice_get};
-ghost use Rattle.dns_versions.specs.Held.{newest_each};
 ghost use Rattle.dns_primary.specs.declared.event.Noted.TheVariants.{OutOfMemory as StatedLack};
 ghost use Rattle.dns_primary.specs.Connections.{most_connections};
 ghost use Rattle.dns_primary.specs.Machine.{Machine};
-ghost use Rattle.dns_primary.specs.Step.{Arrives, IsFlushed, noted_of, takes_memory};
+ghost use Rattle.dns_primary.specs.Step.{Arrives, takes_memory};
 ghost use Rattle.dns_primary.specs.Fresh.{IsShown};
 ghost use Rattle.dns_primary.specs.Open.{count_of};
 ghost use Rattle.dns_primary.specs.Keeps.{IsKept};
-ghost use Rattle.dns_primary.specs.Steps.{Stepped, SteppedBy, event_shown};
+ghost use Rattle.dns_primary.specs.Steps.{SteppedBy, event_shown};
 
-use crate::flush::flush;
-use crate::{Effects, Event, Noted, Primary, To};
+use crate::{Effects, Event, Primary, To};
 use dns_memory::Heap;
 use dns_request::Transport;
 use dns_store::ZoneStore;
 use dns_zone::{Zone, ZoneIndex};
-use std::mem;
-
-/// The first device that failed, as it is noted.
-fn noted(failed: Option<usize>) -> Noted
-    ensures value { result ≡ noted_of failed }
-    ensures memory { result ≢ StatedLack }
-{
-    match failed {
-        Some(place) => Noted::Device(place),
-        None => Noted::Nothing,
-    }
-}
 
 impl<I: ZoneIndex, S: ZoneStore> Primary<I, S> {
-    /// Makes durable what was staged, shows it, and lets go out what waits for it: SERVFAIL where a zone's
-    /// device failed. It takes no memory.
-    pub fn flush(&mut self) -> Effects
-        // Whatever older versions there were, it is the step of the machine, and a crash at any moment of it
-        // leaves each device so that it opens as the versions shown and the first of those staged.
-        ensures step { (old : Machine) → IsKept self.old old
-            → Stepped old self.old self.new result (λ fails stated next. IsFlushed fails old stated next) }
-        ensures bare { result.message ≡ None }
-        ensures as_many { length self.new.pending.items ≡ length self.old.pending.items }
-        ensures newest { newest_each self.new.zones.items self.new.pending.items
-            ≡ newest_each self.old.zones.items self.old.pending.items }
-        ensures empty { self.new.waiting.items ≡ [] }
-        ensures memory { result.noted ≢ StatedLack }
-    {
-        let none = Vec::new(*self.places.allocator());
-        let mut headers = mem::replace(&mut self.places, none);
-        let failed = flush(
-            &mut self.zones,
-            &mut self.pending,
-            &mut self.waiting,
-            &mut headers,
-        );
-        Effects {
-            headers,
-            message: None,
-            accepted: None,
-            noted: noted(failed),
-        }
-    }
-
     /// Does with a message on a connection what is to be done with it. On a connection that isn't there
     /// nothing happens.
     fn arrive(&mut self, alloc: Heap, number: usize, octets: &[u8]) -> Effects
@@ -114,7 +70,7 @@ impl<I: ZoneIndex, S: ZoneStore> Primary<I, S> {
             Event::Connect(peer) => self.connect(peer),
             Event::Message(number, octets) => self.arrive(alloc, number, octets),
             Event::Flush => self.flush(),
-            Event::Checkpoint(place) => self.checkpoint(place),
+            Event::Checkpoint(index) => self.checkpoint(index),
             Event::Pump(number) => self.pump(alloc, number),
             Event::Closed(number) => self.close(number),
         }
@@ -122,13 +78,13 @@ impl<I: ZoneIndex, S: ZoneStore> Primary<I, S> {
 
     /// The version of the zone at a position that is shown: its number, the loaded one having 0, and the
     /// zone.
-    pub fn shown(&self, place: usize) -> Option<(u64, &Zone<I>)>
+    pub fn shown(&self, index: usize) -> Option<(u64, &Zone<I>)>
         ensures { (m : Machine) → IsKept self.now m
-            → MatchOption result (slice_get m.zones place ≡ None)
-            (λ shown. IsShown shown.0 shown.1.now (slice_get m.zones place)) }
+            → MatchOption result (slice_get m.zones index ≡ None)
+            (λ shown. IsShown shown.0 shown.1.now (slice_get m.zones index)) }
     {
-        match self.zones.get(place) {
-            Some(zone) => Some((self.pending[place].number, zone)),
+        match self.zones.get(index) {
+            Some(zone) => Some((self.pending[index].number, zone)),
             None => None,
         }
     }

@@ -17,7 +17,7 @@ ghost use Rattle.dns_primary.specs.Steps.{IsTransferredOrLacks, Stepped, lack_re
 ghost use Rattle.dns_primary.specs.Sending.{EndsOn, IsAtOnce, SendsOn, TransferBeginsOrLacks};
 
 use crate::admission::place_of;
-use crate::queue::header_octets;
+use crate::serve::header_octets;
 use crate::{Effects, Noted, Peer, Primary, Reply, ReplyOctets, To};
 use dns_answer::refuse;
 use dns_memory::Heap;
@@ -25,7 +25,6 @@ use dns_policy::allows;
 use dns_request::{RequestMessage, Transport};
 use dns_store::ZoneStore;
 use dns_transfer::{Session, Version};
-use dns_versions::shown_changes;
 use dns_wire::Rcode;
 use dns_zone::{Zone, ZoneIndex};
 use std::alloc::AllocError;
@@ -52,8 +51,8 @@ fn transport_of(to: To) -> Transport
 
 /// The position of the transfer that is open on the connection with that number.
 fn place_on<I: ZoneIndex>(transfers: &[OpenTransfer<I>], number: usize) -> Option<usize>
-    ensures place { result ≡ position (λ t. t.number == number) transfers.now }
-    ensures inside { IfSome result (λ place. place < length transfers.now) }
+    ensures index { result ≡ position (λ t. t.number == number) transfers.now }
+    ensures inside { IfSome result (λ index. index < length transfers.now) }
 {
     transfers
         .iter()
@@ -103,17 +102,17 @@ fn next_at<I: ZoneIndex>(
     alloc: Heap,
     transfers: &mut Vec<OpenTransfer<I>, Heap>,
     number: usize,
-    place: usize,
+    index: usize,
 ) -> Result<Option<Vec<u8, Heap>>, AllocError>
-    requires first { position (λ t. t.number == number) transfers.old.items ≡ Some place }
-    requires inside { place < length transfers.old.items }
+    requires first { position (λ t. t.number == number) transfers.old.items ≡ Some index }
+    requires inside { index < length transfers.old.items }
     ensures sent { IfOk result
         (λ message. MatchOption message (EndsOn number transfers.old.items transfers.new.items)
         (λ octets. SendsOn number octets.items transfers.old.items transfers.new.items)) }
     ensures refused { OnErr result
         ((n : ℕ) → sending_on n transfers.new.items ≡ sending_on n transfers.old.items) }
 {
-    let (message, is_done) = next_of(alloc, &mut transfers[place])?;
+    let (message, is_done) = next_of(alloc, &mut transfers[index])?;
     if !is_done {
         return Ok(message);
     }
@@ -136,7 +135,7 @@ fn next_on<I: ZoneIndex>(
 {
     match place_on(transfers, number) {
         None => Ok(None),
-        Some(place) => next_at(alloc, transfers, number, place),
+        Some(index) => next_at(alloc, transfers, number, index),
     }
 }
 
@@ -250,24 +249,24 @@ impl<I: ZoneIndex, S: ZoneStore> Primary<I, S> {
     fn open_shown(
         &self,
         alloc: Heap,
-        place: usize,
+        index: usize,
         peer: Peer,
         to: To,
         request: &RequestMessage<'_>,
     ) -> Result<Result<Session<I>, Rcode>, AllocError>
-        requires inside { place < length self.now.zones.items }
+        requires inside { index < length self.now.zones.items }
         ensures opens { (m : Machine) (z : ZoneState) → IsKept self.now m
-            → slice_get m.zones place ≡ Some z → IfOk result
+            → slice_get m.zones index ≡ Some z → IfOk result
             (λ opened. Opens (transport_of to) request.now.message.octets request.now.message.message
             request.now.question (Some (transfer_version z))
             (z.setting.may_transfer peer.address && is_free to m.connections) opened) }
         ensures some { IfOk result (λ opened. IfOk opened (λ s. s.left ≡ [] → ⊥)) }
     {
         let version = Version {
-            zone: &self.zones[place],
-            changes: shown_changes(&self.pending[place]),
+            zone: &self.zones[index],
+            changes: self.pending[index].changes(),
         };
-        let is_listed = allows(&self.settings[place].transfer, peer.address);
+        let is_listed = allows(&self.settings[index].transfer, peer.address);
         let is_allowed = is_listed & self.is_free(to);
         Session::open(alloc, Some(version), is_allowed, request, transport_of(to))
     }
@@ -288,7 +287,7 @@ impl<I: ZoneIndex, S: ZoneStore> Primary<I, S> {
         let name = request.question.name().to_name(alloc)?;
         match place_of(&self.zones, &name.lend()) {
             None => open_unheld(alloc, &self.zones, request, transport_of(to)),
-            Some(place) => self.open_shown(alloc, place, peer, to, request),
+            Some(index) => self.open_shown(alloc, index, peer, to, request),
         }
     }
 

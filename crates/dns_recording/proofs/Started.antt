@@ -24,20 +24,20 @@ comments_push (o ∷ origins) origin (z ∷ zones) =
     let here = zone_comment o (length z.shown) (shown_zone (kept_of z)) in
     ap (λ (x : List ℕ). here ++ x) (comments_push origins origin zones) ∙ sym (append_assoc here (zone_comments origins zones) (comment_at origin (slice_get zones (length origins))))
 
-comments_more : (origins : List Labels) (other : Labels) (zones : List ZoneState) (place : ℕ) → place < length origins
-    → zone_comments (take (place + 1) origins) zones ≡ zone_comments (take place origins) zones ++ comment_at (get_or origins place other) (slice_get zones place)
-comments_more origins other zones place lt =
-    let here = get_or origins place other in
-    ap (λ (x : List Labels). zone_comments x zones) (take_more origins place other lt) ∙ comments_push (take place origins) here zones
-    ∙ ap (λ (x : ℕ). zone_comments (take place origins) zones ++ comment_at here (slice_get zones x)) (length-take-le place origins (omega (arith, lt)))
+comments_more : (origins : List Labels) (other : Labels) (zones : List ZoneState) (index : ℕ) → index < length origins
+    → zone_comments (take (index + 1) origins) zones ≡ zone_comments (take index origins) zones ++ comment_at (get_or origins index other) (slice_get zones index)
+comments_more origins other zones index lt =
+    let here = get_or origins index other in
+    ap (λ (x : List Labels). zone_comments x zones) (take_more origins index other lt) ∙ comments_push (take index origins) here zones
+    ∙ ap (λ (x : ℕ). zone_comments (take index origins) zones ++ comment_at here (slice_get zones x)) (length-take-le index origins (omega (arith, lt)))
 
 -- The comment of one zone more was written.
-pub told_more : (origins : List Labels) (other : Labels) (zones : List ZoneState) (place : ℕ) (out between out_after : Option (List ℕ)) → place < length origins
-    → Appends out between (zone_comments (take place origins) zones) → Appends between out_after (comment_at (get_or origins place other) (slice_get zones place))
-    → Appends out out_after (zone_comments (take (place + 1) origins) zones)
-told_more origins other zones place out between out_after lt first more =
-    let here = comment_at (get_or origins place other) (slice_get zones place) in
-    subst (λ (x : List ℕ). Appends out out_after x) (sym (comments_more origins other zones place lt)) (Appends-trans out between out_after (zone_comments (take place origins) zones) here first more)
+pub told_more : (origins : List Labels) (other : Labels) (zones : List ZoneState) (index : ℕ) (out between out_after : Option (List ℕ)) → index < length origins
+    → Appends out between (zone_comments (take index origins) zones) → Appends between out_after (comment_at (get_or origins index other) (slice_get zones index))
+    → Appends out out_after (zone_comments (take (index + 1) origins) zones)
+told_more origins other zones index out between out_after lt first more =
+    let here = comment_at (get_or origins index other) (slice_get zones index) in
+    subst (λ (x : List ℕ). Appends out out_after x) (sym (comments_more origins other zones index lt)) (Appends-trans out between out_after (zone_comments (take index origins) zones) here first more)
 
 pub no_zone : (origin : Labels) (z : Option ZoneState) (out out_after : Option (List ℕ)) → z ≡ None → out_after ≡ out → Appends out out_after (comment_at origin z)
 no_zone origin z out out_after none same =

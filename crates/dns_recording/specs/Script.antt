@@ -70,7 +70,7 @@ is_stirred stirred number = unwrap_or (slice_get stirred number) false
 abbrev pub is_noted : Noted → Bool
 is_noted noted.Nothing = false
 is_noted noted.OutOfMemory = true
-is_noted (noted.Device place) = true
+is_noted (noted.Device index) = true
 
 abbrev pub has_found : Effects → Bool
 has_found effects = is_some effects.message || is_noted effects.noted
@@ -92,7 +92,7 @@ note_scripted stirred (note.Silent number) = unsaid stirred
 note_scripted stirred (note.Stalled number) = unsaid stirred
 note_scripted stirred note.Refused = unsaid stirred
 note_scripted stirred note.OutOfMemory = unsaid stirred
-note_scripted stirred (note.Device place) = unsaid stirred
+note_scripted stirred (note.Device index) = unsaid stirred
 note_scripted stirred (note.Begins now) = unsaid stirred
 note_scripted stirred note.Ends = unsaid stirred
 note_scripted stirred note.Unrecorded = unsaid stirred
@@ -106,7 +106,7 @@ event_scripted stirred (Arrives number octets) effects =
 event_scripted stirred (Pump number) effects = pump_scripted stirred number (has_found effects)
 event_scripted stirred Flush effects = record { text = flush_line; stirred = stirred }
 event_scripted stirred (Connect peer) effects = unsaid stirred
-event_scripted stirred (Checkpoint place) effects = unsaid stirred
+event_scripted stirred (Checkpoint index) effects = unsaid stirred
 event_scripted stirred (Closed number) effects = unsaid stirred
 
 abbrev pub report_scripted : List Bool → Report → Scripted

@@ -34,9 +34,9 @@ pub(crate) fn write_zones<I: ZoneIndex, S: ZoneStore, W: Write>(
     ensures { OnOk result ((m : Machine) → IsKept primary.now m
         → Appends (W.contents out.old) (W.contents out.new) (zone_comments origins.now m.zones)) }
 {
-    for place in 0..origins.len() {
-        if let Some((version, zone)) = primary.shown(place) {
-            write_zone(out, &origins[place], version, zone)?;
+    for index in 0..origins.len() {
+        if let Some((version, zone)) = primary.shown(index) {
+            write_zone(out, &origins[index], version, zone)?;
         }
     }
     Ok(())

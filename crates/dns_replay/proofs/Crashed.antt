@@ -19,9 +19,9 @@ use Rattle.dns_replay.specs.Crashes.{AreLeftBy, IsLeftBy, keep_at}
 use Rattle.dns_replay.specs.Runs.{AreSame}
 
 module _ {D : Type 0} (g : Ghosts D) (tries : ℕ) (m : Machine) (event : Event) where
-  pub crashed_recoverable : (kept : D → told.Keep → Content) (keeps : List ZoneKeep) (at place : ℕ) (zones : List ZoneState) (names : List Labels) (settings : List ZoneSpec) (olds news : List D) → AreRecoverable g tries m event place zones names settings olds → AreLeftBy g kept keeps at olds news → AreRecoverable g tries m event place zones names settings news
-  crashed_recoverable kept keeps at place [] [] [] [] [] is each = tt
-  crashed_recoverable kept keeps at place (z ∷ zones) (a ∷ names) (s ∷ settings) (d ∷ olds) (e ∷ news) is each = (
+  pub crashed_recoverable : (kept : D → told.Keep → Content) (keeps : List ZoneKeep) (at index : ℕ) (zones : List ZoneState) (names : List Labels) (settings : List ZoneSpec) (olds news : List D) → AreRecoverable g tries m event index zones names settings olds → AreLeftBy g kept keeps at olds news → AreRecoverable g tries m event index zones names settings news
+  crashed_recoverable kept keeps at index [] [] [] [] [] is each = tt
+  crashed_recoverable kept keeps at index (z ∷ zones) (a ∷ names) (s ∷ settings) (d ∷ olds) (e ∷ news) is each = (
     record {
       shape = is.0.shape;
       set = is.0.set;
@@ -29,11 +29,11 @@ module _ {D : Type 0} (g : Ghosts D) (tries : ℕ) (m : Machine) (event : Event)
       honest = each.0.honest is.0.honest;
       leaves = λ c left. is.0.leaves c (each.0.left c is.0.honest left);
     },
-    crashed_recoverable kept keeps (suc at) (suc place) zones names settings olds news is.1 each.1,
+    crashed_recoverable kept keeps (suc at) (suc index) zones names settings olds news is.1 each.1,
   )
-  crashed_recoverable kept keeps at place zones names settings [] (e ∷ news) is each = absurd each
-  crashed_recoverable kept keeps at place zones names settings (d ∷ olds) [] is each = absurd each
-  crashed_recoverable kept keeps at place _ _ _ olds news is each = absurd is
+  crashed_recoverable kept keeps at index zones names settings [] (e ∷ news) is each = absurd each
+  crashed_recoverable kept keeps at index zones names settings (d ∷ olds) [] is each = absurd each
+  crashed_recoverable kept keeps at index _ _ _ olds news is each = absurd is
 
   same_recoverable : (making : ℕ → Type 0) (z : ZoneState) (a : Labels) (s t : ZoneSpec) (d : D) → AreSame s t → IsRecoverable g tries making z a s d → IsRecoverable g tries making z a t d
   same_recoverable making z a s t d same is = record {
@@ -48,13 +48,13 @@ module _ {D : Type 0} (g : Ghosts D) (tries : ℕ) (m : Machine) (event : Event)
     leaves = is.leaves;
   }
 
-  pub reset_recoverable : (place : ℕ) (zones : List ZoneState) (names : List Labels) (settings again : List ZoneSpec) (devices : List D) → Each2 AreSame settings again → AreRecoverable g tries m event place zones names settings devices → AreRecoverable g tries m event place zones names again devices
-  reset_recoverable place [] [] [] [] [] each is = tt
-  reset_recoverable place (z ∷ zones) (a ∷ names) (s ∷ settings) (t ∷ again) (d ∷ devices) each is =
-      (same_recoverable (IsMaking m event place z) z a s t d each.0 is.0, reset_recoverable (suc place) zones names settings again devices each.1 is.1)
-  reset_recoverable place zones names [] (t ∷ again) devices each is = absurd each
-  reset_recoverable place zones names (s ∷ settings) [] devices each is = absurd each
-  reset_recoverable place _ _ settings again _ each is = absurd is
+  pub reset_recoverable : (index : ℕ) (zones : List ZoneState) (names : List Labels) (settings again : List ZoneSpec) (devices : List D) → Each2 AreSame settings again → AreRecoverable g tries m event index zones names settings devices → AreRecoverable g tries m event index zones names again devices
+  reset_recoverable index [] [] [] [] [] each is = tt
+  reset_recoverable index (z ∷ zones) (a ∷ names) (s ∷ settings) (t ∷ again) (d ∷ devices) each is =
+      (same_recoverable (IsMaking m event index z) z a s t d each.0 is.0, reset_recoverable (suc index) zones names settings again devices each.1 is.1)
+  reset_recoverable index zones names [] (t ∷ again) devices each is = absurd each
+  reset_recoverable index zones names (s ∷ settings) [] devices each is = absurd each
+  reset_recoverable index _ _ settings again _ each is = absurd is
 
 pub same_back : (settings again : List ZoneSpec) → Each2 AreSame settings again → Each2 AreSame again settings
 same_back [] [] each = tt

@@ -6,7 +6,7 @@ use Rattle.dns_names.specs.Name.{Labels}
 use Rattle.dns_sectors.specs.Device.{Content}
 use Rattle.dns_sectors.specs.declared.device.Sectors.{Ghosts}
 use Rattle.dns_sectors.specs.declared.memory.Keep as told
-use Rattle.dns_zone.specs.declared.index.ZoneIndex as index
+use Rattle.dns_zone.specs.declared.index.ZoneIndex as zone_index
 use Rattle.dns_store.specs.declared.zone_store.ZoneStore as store
 use Rattle.dns_store.specs.declared.kept_store.KeptStore.{KeptStore}
 use Rattle.dns_versions.specs.Each.{Each2}
@@ -33,7 +33,7 @@ use Rattle.dns_replay.proofs.Crashed.{crashed_recoverable, reset_recoverable, sa
 use Rattle.dns_replay.proofs.Reopened.{opened_over}
 use Rattle.dns_replay.proofs.Printing.{nothing_more}
 
-module _ {D I : Type 0} {g : Ghosts D} {i : index.Ghosts I} {s : store.Ghosts (KeptStore D I g)} (names : List Labels) (settings : List ZoneSpec) where
+module _ {D I : Type 0} {g : Ghosts D} {i : zone_index.Ghosts I} {s : store.Ghosts (KeptStore D I g)} (names : List Labels) (settings : List ZoneSpec) where
   -- after a stop an event is told as one
   pub still_halted : (event : Event) (p q : Option (Primary I (KeptStore D I g) i s)) (devices : List D) (out out_after : Option (List ℕ)) → p ≡ None → q ≡ None → Appends out out_after printed_stop
       → LeadsOn names settings (λ from led. EventLeads names from event led) p devices q devices out out_after
@@ -97,13 +97,13 @@ module _ {D I : Type 0} {g : Ghosts D} {i : index.Ghosts I} {s : store.Ghosts (K
 
   -- ... with the same settings
   pub opened_again : (m : Machine) (event : Event) (tries : ℕ) (again : List ZoneSpec) (devices : List D) (r : Result (Primary I (KeptStore D I g) i s) (NotOpened D)) → Each2 AreSame settings again
-      → MatchResult r (λ p. (new : Machine) × IsStopped tries m event new × IsKept p new) (λ e. AreRecoverable g (suc tries) m event 0 m.zones names again e.devices.items × IsRecoveryStopped tries e.error e.place m.zones)
+      → MatchResult r (λ p. (new : Machine) × IsStopped tries m event new × IsKept p new) (λ e. AreRecoverable g (suc tries) m event 0 m.zones names again e.devices.items × IsRecoveryStopped tries e.error e.index m.zones)
       → MatchResult r (λ p. (new : Machine) × IsStopped tries m event new × IsKept p new) (λ e. AreRecoverable g (suc tries) m event 0 m.zones names settings e.devices.items)
   opened_again m event tries again devices (Ok p) same h = h
   opened_again m event tries again devices (Err e) same h = reset_recoverable g (suc tries) m event 0 m.zones names again settings e.devices.items (same_back settings again same) h.0
 
 -- what is said leads on
-module _ {D I : Type 0} {g : Ghosts D} {i : index.Ghosts I} {s : store.Ghosts (KeptStore D I g)} (kept : D → told.Keep → Content) (names : List Labels) (settings : List ZoneSpec) where
+module _ {D I : Type 0} {g : Ghosts D} {i : zone_index.Ghosts I} {s : store.Ghosts (KeptStore D I g)} (kept : D → told.Keep → Content) (names : List Labels) (settings : List ZoneSpec) where
   -- a crash, and all stores were opened
   pub recovers : (stays : (device : D) → g.is_honest device → g.may_leave device (g.seen device)) (keeps : List ZoneKeep) (stop : Option ℕ) (o : Option (Primary I (KeptStore D I g) i s)) (q : Primary I (KeptStore D I g) i s) (devices left crashed rest : List D) (out out_after : Option (List ℕ))
       → ((names : List Labels) (settings : List ZoneSpec) (from : Standing) → IsAt names settings o devices from → AreSetAs names settings (machine_of from).zones → AreRecoverable g (tries_in from) (machine_of from) (event_in from) 0 (machine_of from).zones names settings left)
@@ -187,11 +187,11 @@ module _ {D I : Type 0} {g : Ghosts D} {i : index.Ghosts I} {s : store.Ghosts (K
       let does = h from at set in
       (does.0, record { command = command; says = says; leads = does.1 }, does.2, does.3)
   line_does line command (Ok Refused) p q devices left out out_after says h =
-      (printed_refusal (slice_get names h.1.place) h.1.error, record { command = command; says = says; crashes = h.0; place = h.1.place; error = h.1.error; printed = refl }, h.1.printed)
+      (printed_refusal (slice_get names h.1.index) h.1.error, record { command = command; says = says; crashes = h.0; index = h.1.index; error = h.1.error; printed = refl }, h.1.printed)
   line_does line command (Ok NoCommand) p q devices left out out_after says h = absurd h
 
 -- the devices of a primary that was there, or those that were left
-module _ {D I : Type 0} {g : Ghosts D} {i : index.Ghosts I} {s : store.Ghosts (KeptStore D I g)} where
+module _ {D I : Type 0} {g : Ghosts D} {i : zone_index.Ghosts I} {s : store.Ghosts (KeptStore D I g)} where
   pub taken_running : (o : Option (Primary I (KeptStore D I g) i s)) (p : Primary I (KeptStore D I g) i s) (devices left : List D) → o ≡ Some p
       → ((m : Machine) (event : Event) (names : List Labels) (settings : List ZoneSpec) → IsKept p m → AreSetAs names settings m.zones → AreRecoverable g 0 m event 0 m.zones names settings left)
       → (names : List Labels) (settings : List ZoneSpec) (from : Standing) → IsAt names settings o devices from → AreSetAs names settings (machine_of from).zones → AreRecoverable g (tries_in from) (machine_of from) (event_in from) 0 (machine_of from).zones names settings left

@@ -19,7 +19,7 @@ use Rattle.dns_primary.specs.Open.{AreRecoverable, IsRecoverable, shape_of}
 use Rattle.dns_primary.specs.HandOut.{AreSetAs}
 use Rattle.dns_replay.specs.Made.{IsMadeOf}
 use Rattle.std.specs.Io.KnownBytes.{Appends}
-use Rattle.dns_zone.specs.declared.index.ZoneIndex as index
+use Rattle.dns_zone.specs.declared.index.ZoneIndex as zone_index
 use Rattle.dns_store.specs.declared.zone_store.ZoneStore as store
 use Rattle.dns_store.specs.declared.kept_store.KeptStore.{KeptStore}
 use Rattle.dns_primary.specs.declared.primary.Primary.{Primary}
@@ -81,25 +81,25 @@ module _ {D : Type 0} (g : Ghosts D) (m : Machine) where
         (unopened z, recovered, subst (λ (x : Shape). opens x (reopened_as (unopened z)) c) (sym is.shape) (subst (λ (o : Opened). opens (shape_of y.apex s) o c) opened (made.leaves c left)));
   }
 
-  pub all_recoverable : (event : Event) (place : ℕ) (zones : List Zone) (settings : List ZoneSpec) (states : List ZoneState) (devices : List D) → Each3 (IsMadeOf g) zones settings devices → Each3 IsLoaded zones settings states → AreRecoverable g 0 m event place (all_unopened states) (map (λ z. z.apex) zones) settings devices
-  all_recoverable event place [] [] [] [] made each = tt
-  all_recoverable event place (y ∷ zones) (s ∷ settings) (z ∷ states) (d ∷ devices) made each =
-      (made_recoverable (IsMaking m event place (unopened z)) y s z d made.0 each.0, all_recoverable event (suc place) zones settings states devices made.1 each.1)
-  all_recoverable event place zones settings [] (d ∷ devices) made each = none zones settings each made
+  pub all_recoverable : (event : Event) (index : ℕ) (zones : List Zone) (settings : List ZoneSpec) (states : List ZoneState) (devices : List D) → Each3 (IsMadeOf g) zones settings devices → Each3 IsLoaded zones settings states → AreRecoverable g 0 m event index (all_unopened states) (map (λ z. z.apex) zones) settings devices
+  all_recoverable event index [] [] [] [] made each = tt
+  all_recoverable event index (y ∷ zones) (s ∷ settings) (z ∷ states) (d ∷ devices) made each =
+      (made_recoverable (IsMaking m event index (unopened z)) y s z d made.0 each.0, all_recoverable event (suc index) zones settings states devices made.1 each.1)
+  all_recoverable event index zones settings [] (d ∷ devices) made each = none zones settings each made
     where
-      none : (zones : List Zone) (settings : List ZoneSpec) → Each3 IsLoaded zones settings [] → Each3 (IsMadeOf g) zones settings (d ∷ devices) → AreRecoverable g 0 m event place [] (map (λ z. z.apex) zones) settings (d ∷ devices)
+      none : (zones : List Zone) (settings : List ZoneSpec) → Each3 IsLoaded zones settings [] → Each3 (IsMadeOf g) zones settings (d ∷ devices) → AreRecoverable g 0 m event index [] (map (λ z. z.apex) zones) settings (d ∷ devices)
       none [] [] each made = absurd made
       none [] (s ∷ settings) each made = absurd each
       none (y ∷ zones) [] each made = absurd each
       none (y ∷ zones) (s ∷ settings) each made = absurd each
-  all_recoverable event place zones settings (z ∷ states) [] made each = none zones settings each made
+  all_recoverable event index zones settings (z ∷ states) [] made each = none zones settings each made
     where
-      none : (zones : List Zone) (settings : List ZoneSpec) → Each3 IsLoaded zones settings (z ∷ states) → Each3 (IsMadeOf g) zones settings [] → AreRecoverable g 0 m event place (all_unopened (z ∷ states)) (map (λ z. z.apex) zones) settings []
+      none : (zones : List Zone) (settings : List ZoneSpec) → Each3 IsLoaded zones settings (z ∷ states) → Each3 (IsMadeOf g) zones settings [] → AreRecoverable g 0 m event index (all_unopened (z ∷ states)) (map (λ z. z.apex) zones) settings []
       none [] [] each made = absurd each
       none [] (s ∷ settings) each made = absurd each
       none (y ∷ zones) [] each made = absurd each
       none (y ∷ zones) (s ∷ settings) each made = absurd made
-  all_recoverable event place _ _ _ _ made each = absurd each
+  all_recoverable event index _ _ _ _ made each = absurd each
 
 pub all_set : {D : Type 0} (g : Ghosts D) (zones : List Zone) (settings : List ZoneSpec) (states : List ZoneState) (devices : List D) → Each3 (IsMadeOf g) zones settings devices → Each3 IsLoaded zones settings states → AreSetAs (map (λ z. z.apex) zones) settings states
 all_set g [] [] [] [] made each = tt
@@ -115,8 +115,8 @@ all_set g [] [] [] (d ∷ devices) made each = absurd made
 all_set g (y ∷ zones) (s ∷ settings) (z ∷ states) [] made each = absurd made
 
 -- a machine to which nothing has happened, after a stop before its first event
-same_zone : (m : Machine) (place : ℕ) (y : Zone) (s : ZoneSpec) (z w : ZoneState) → IsLoaded y s z → IsRecovered 1 1 (IsMaking m Flush place (unopened z)) (unopened z) w → w ≡ z
-same_zone m place y s z w is r =
+same_zone : (m : Machine) (index : ℕ) (y : Zone) (s : ZoneSpec) (z w : ZoneState) → IsLoaded y s z → IsRecovered 1 1 (IsMaking m Flush index (unopened z)) (unopened z) w → w ≡ z
+same_zone m index y s z w is r =
     let kept = none_kept r.kept r.lost (sym is.staged ∙ r.front) in
     let shown : w.shown ≡ z.shown = r.shown ∙ ap (λ (l : List Made). z.shown ++ l) kept ∙ append-nil z.shown in
     let least = r.at_least in
@@ -126,7 +126,7 @@ same_zone m place y s z w is r =
       | inl e ↦ e
       | inr h ↦ elim h [
         | inl e ↦ (let never : None ≡ Some w.base = sym is.second ∙ e in absurd cc)
-        | inr making ↦ absurd (none_moved (place, making.1.0) making.1.1)
+        | inr making ↦ absurd (none_moved (index, making.1.0) making.1.1)
       ]
     ] in
     λ i. record {
@@ -140,12 +140,12 @@ same_zone m place y s z w is r =
       closed = (r.opened ∙ sym is.opened) i;
     }
 
-same_zones : (m : Machine) (place : ℕ) (zones : List Zone) (settings : List ZoneSpec) (olds news : List ZoneState) → Each3 IsLoaded zones settings olds → AreRecovered 1 1 m Flush place (all_unopened olds) news → news ≡ olds
-same_zones m place [] [] [] [] each r = refl
-same_zones m place (y ∷ zones) (s ∷ settings) (z ∷ olds) (w ∷ news) each r = (let one = same_zone m place y s z w each.0 r.0 in let rest = same_zones m (suc place) zones settings olds news each.1 r.1 in λ i. one i ∷ rest i)
-same_zones m place zones settings [] (w ∷ news) each r = absurd r
-same_zones m place zones settings (z ∷ olds) [] each r = absurd r
-same_zones m place _ _ _ _ each r = absurd each
+same_zones : (m : Machine) (index : ℕ) (zones : List Zone) (settings : List ZoneSpec) (olds news : List ZoneState) → Each3 IsLoaded zones settings olds → AreRecovered 1 1 m Flush index (all_unopened olds) news → news ≡ olds
+same_zones m index [] [] [] [] each r = refl
+same_zones m index (y ∷ zones) (s ∷ settings) (z ∷ olds) (w ∷ news) each r = (let one = same_zone m index y s z w each.0 r.0 in let rest = same_zones m (suc index) zones settings olds news each.1 r.1 in λ i. one i ∷ rest i)
+same_zones m index zones settings [] (w ∷ news) each r = absurd r
+same_zones m index zones settings (z ∷ olds) [] each r = absurd r
+same_zones m index _ _ _ _ each r = absurd each
 
 -- the machine before its stores were opened
 abbrev pub before_opening : Machine → Machine
@@ -166,7 +166,7 @@ each3_same R (x ∷ xs) (y ∷ ys) (z ∷ zs) h = ap suc (each3_same R xs ys zs 
 each3_same R _ _ _ h = absurd h
 
 -- what a script does over a primary that was opened for the devices that were made
-pub runs_from : {D I : Type 0} {g : Ghosts D} {i : index.Ghosts I} {s : store.Ghosts (KeptStore D I g)} (kept : D → told.Keep → Content) (zones : List Zone) (settings again : List ZoneSpec) (names : List Labels) (devices : List D) (p : Primary I (KeptStore D I g) i s) (lines : List (List ℕ)) (ending : Ending) (out out_after : Option (List ℕ)) → names ≡ map (λ (z : Zone). z.apex) zones → Each2 AreSame settings again → Each3 (IsMadeOf g) zones settings devices
+pub runs_from : {D I : Type 0} {g : Ghosts D} {i : zone_index.Ghosts I} {s : store.Ghosts (KeptStore D I g)} (kept : D → told.Keep → Content) (zones : List Zone) (settings again : List ZoneSpec) (names : List Labels) (devices : List D) (p : Primary I (KeptStore D I g) i s) (lines : List (List ℕ)) (ending : Ending) (out out_after : Option (List ℕ)) → names ≡ map (λ (z : Zone). z.apex) zones → Each2 AreSame settings again → Each3 (IsMadeOf g) zones settings devices
     → ((m : Machine) (event : Event) (tries : ℕ) → AreRecoverable g tries m event 0 m.zones names again devices → (new : Machine) × IsStopped tries m event new × IsKept p new)
     → RanScript kept names settings lines ending p out out_after → RunsFrom g kept zones settings lines ending out out_after
 runs_from {g = g} kept zones settings again names devices p lines ending out out_after e same made opens ran = record { begins = fresh_machine zones settings (each3_same (IsMadeOf g) zones settings devices made); leads = leads }

@@ -101,31 +101,31 @@ set_again s z w e set =
 
 module _ {D : Type 0} (g : Ghosts D) (stays : (device : D) → g.is_honest device → g.may_leave device (g.seen device)) (tries : ℕ) (m : Machine) (event : Event) where
   -- what is on the device of the zone there
-  record IsHeld (place : ℕ) (z : ZoneState) (device : D) (w : ZoneState) : Type 0 where
-    recovered : IsRecovered 0 tries (IsMaking m event place z) z w
+  record IsHeld (index : ℕ) (z : ZoneState) (device : D) (w : ZoneState) : Type 0 where
+    recovered : IsRecovered 0 tries (IsMaking m event index z) z w
     opens_as : opens w.setting.shape (reopened_as w) (g.seen device)
 
   abbrev AreHeld : ℕ → List ZoneState → List D → List ZoneState → Type 0
-  AreHeld place [] [] [] = Unit {0}
-  AreHeld place (z ∷ zones) (d ∷ devices) (w ∷ held) = IsHeld place z d w × AreHeld (suc place) zones devices held
-  AreHeld place _ _ _ = ⊥
+  AreHeld index [] [] [] = Unit {0}
+  AreHeld index (z ∷ zones) (d ∷ devices) (w ∷ held) = IsHeld index z d w × AreHeld (suc index) zones devices held
+  AreHeld index _ _ _ = ⊥
 
-  held_on : (place : ℕ) (zones : List ZoneState) (names : List Labels) (settings : List ZoneSpec) (devices : List D) → AreRecoverable g tries m event place zones names settings devices → (held : List ZoneState) × AreHeld place zones devices held
-  held_on place [] [] [] [] is = ([], tt)
-  held_on place (z ∷ zones) (a ∷ names) (s ∷ settings) (d ∷ devices) is =
+  held_on : (index : ℕ) (zones : List ZoneState) (names : List Labels) (settings : List ZoneSpec) (devices : List D) → AreRecoverable g tries m event index zones names settings devices → (held : List ZoneState) × AreHeld index zones devices held
+  held_on index [] [] [] [] is = ([], tt)
+  held_on index (z ∷ zones) (a ∷ names) (s ∷ settings) (d ∷ devices) is =
       let one = is.0.leaves (g.seen d) (stays d is.0.honest) in
-      let rest = held_on (suc place) zones names settings devices is.1 in
+      let rest = held_on (suc index) zones names settings devices is.1 in
       (one.0 ∷ rest.0, (record { recovered = one.1; opens_as = one.2 }, rest.1))
-  held_on place _ _ _ _ is = absurd is
+  held_on index _ _ _ _ is = absurd is
 
   module _ (kept : D → told.Keep → Content) (keeps : List ZoneKeep) where
     -- a crash leaves what is read, and nothing else
     only_seen : (keep : _) (d e : D) → g.is_honest d → IsLeftBy g kept keep d e → (c : Content) → g.may_leave e c → g.seen e ≡ c
     only_seen keep d e honest is c left = is.exact honest (g.seen e) (stays e (is.honest honest)) ∙ sym (is.exact honest c left)
 
-    held_recoverable : (other : Machine) (at place : ℕ) (zones : List ZoneState) (names : List Labels) (settings : List ZoneSpec) (olds news : List D) (held : List ZoneState) → AreRecoverable g tries m event place zones names settings olds → AreLeftBy g kept keeps at olds news → AreHeld place zones news held → AreRecoverable g 0 other Flush place held names settings news
-    held_recoverable other at place [] [] [] [] [] [] is each h = tt
-    held_recoverable other at place (z ∷ zones) (a ∷ names) (s ∷ settings) (d ∷ olds) (e ∷ news) (w ∷ held) is each h = (
+    held_recoverable : (other : Machine) (at index : ℕ) (zones : List ZoneState) (names : List Labels) (settings : List ZoneSpec) (olds news : List D) (held : List ZoneState) → AreRecoverable g tries m event index zones names settings olds → AreLeftBy g kept keeps at olds news → AreHeld index zones news held → AreRecoverable g 0 other Flush index held names settings news
+    held_recoverable other at index [] [] [] [] [] [] is each h = tt
+    held_recoverable other at index (z ∷ zones) (a ∷ names) (s ∷ settings) (d ∷ olds) (e ∷ news) (w ∷ held) is each h = (
       record {
         shape = ap (λ (x : Setting). x.shape) h.0.recovered.setting ∙ is.0.shape;
         set = set_again s z w h.0.recovered.setting is.0.set;
@@ -133,31 +133,31 @@ module _ {D : Type 0} (g : Ghosts D) (stays : (device : D) → g.is_honest devic
         honest = each.0.honest is.0.honest;
         leaves = λ c left. (
           w,
-          recovered_itself tries (IsMaking m event place z) (IsMaking other Flush place w) z w h.0.recovered,
+          recovered_itself tries (IsMaking m event index z) (IsMaking other Flush index w) z w h.0.recovered,
           subst (λ (x : Content). opens w.setting.shape (reopened_as w) x) (only_seen (keep_at keeps at) d e is.0.honest each.0 c left) h.0.opens_as,
         );
       },
-      held_recoverable other (suc at) (suc place) zones names settings olds news held is.1 each.1 h.1,
+      held_recoverable other (suc at) (suc index) zones names settings olds news held is.1 each.1 h.1,
     )
-    held_recoverable other at place zones names settings [] (e ∷ news) held is each h = absurd each
-    held_recoverable other at place zones names settings (d ∷ olds) [] held is each h = absurd each
-    held_recoverable other at place (z ∷ zones) names settings (d ∷ olds) (e ∷ news) [] is each h = absurd h
-    held_recoverable other at place [] names settings [] [] (w ∷ held) is each h = absurd h
-    held_recoverable other at place _ _ _ olds news held is each h = absurd is
+    held_recoverable other at index zones names settings [] (e ∷ news) held is each h = absurd each
+    held_recoverable other at index zones names settings (d ∷ olds) [] held is each h = absurd each
+    held_recoverable other at index (z ∷ zones) names settings (d ∷ olds) (e ∷ news) [] is each h = absurd h
+    held_recoverable other at index [] names settings [] [] (w ∷ held) is each h = absurd h
+    held_recoverable other at index _ _ _ olds news held is each h = absurd is
 
-  opened_over_all : (other : Machine) (place : ℕ) (zones : List ZoneState) (devices : List D) (held news : List ZoneState) → AreHeld place zones devices held → AreRecovered 1 1 other Flush place held news → AreRecovered 1 (suc tries) m event place zones news × AreOpenedOver g devices news
-  opened_over_all other place [] [] [] [] h r = (tt, tt)
-  opened_over_all other place (z ∷ zones) (d ∷ devices) (w ∷ held) (v ∷ news) h r =
-      let never : (b : ℕ) → IsMaking other Flush place w b → ⊥ = λ b made. none_moved (place, made.1.0) made.1.1 in
-      let making = IsMaking m event place z in
-      let later = IsMaking other Flush place w in
-      let rest = opened_over_all other (suc place) zones devices held news h.1 r.1 in (
+  opened_over_all : (other : Machine) (index : ℕ) (zones : List ZoneState) (devices : List D) (held news : List ZoneState) → AreHeld index zones devices held → AreRecovered 1 1 other Flush index held news → AreRecovered 1 (suc tries) m event index zones news × AreOpenedOver g devices news
+  opened_over_all other index [] [] [] [] h r = (tt, tt)
+  opened_over_all other index (z ∷ zones) (d ∷ devices) (w ∷ held) (v ∷ news) h r =
+      let never : (b : ℕ) → IsMaking other Flush index w b → ⊥ = λ b made. none_moved (index, made.1.0) made.1.1 in
+      let making = IsMaking m event index z in
+      let later = IsMaking other Flush index w in
+      let rest = opened_over_all other (suc index) zones devices held news h.1 r.1 in (
         (recovered_again tries making later z w v never h.0.recovered r.0, rest.0),
         (record { held = w; nothing_staged = h.0.recovered.staged; opens_as = h.0.opens_as; again = recovered_so tries making later z w v never h.0.recovered r.0 }, rest.1),
       )
-  opened_over_all other place zones devices [] (v ∷ news) h r = absurd r
-  opened_over_all other place zones devices (w ∷ held) [] h r = absurd r
-  opened_over_all other place _ _ _ _ h r = absurd h
+  opened_over_all other index zones devices [] (v ∷ news) h r = absurd r
+  opened_over_all other index zones devices (w ∷ held) [] h r = absurd r
+  opened_over_all other index _ _ _ _ h r = absurd h
 
   -- The machine that is opened over devices that crashed is what is left on them.
   pub opened_over : (P : Machine → Type 0) (kept : D → told.Keep → Content) (keeps : List ZoneKeep) (names : List Labels) (settings : List ZoneSpec) (olds news : List D) → AreRecoverable g tries m event 0 m.zones names settings olds → AreLeftBy g kept keeps 0 olds news

@@ -6,7 +6,7 @@ use Rattle.dns_names.specs.Name.{Labels}
 use Rattle.dns_sectors.specs.Device.{Content}
 use Rattle.dns_sectors.specs.declared.device.Sectors.{Ghosts}
 use Rattle.dns_sectors.specs.declared.memory.Keep as told
-use Rattle.dns_zone.specs.declared.index.ZoneIndex as index
+use Rattle.dns_zone.specs.declared.index.ZoneIndex as zone_index
 use Rattle.dns_store.specs.declared.zone_store.ZoneStore as store
 use Rattle.dns_store.specs.declared.kept_store.KeptStore.{KeptStore}
 use Rattle.dns_primary.specs.declared.primary.Primary.{Primary}
@@ -117,7 +117,7 @@ module _ (names : List Labels) (crash : Crash) (start : Machine) (all : List (Li
       (subst (λ (ls : List (List ℕ)). Runs names crash now number ls (record (idle now) { text = text }) Refused) (sym e) (inr (inr (text, refuses, refl, refl))))
 
 -- The same over what a primary and its devices stand for, whatever machine the first one kept.
-module _ {D I : Type 0} {g : Ghosts D} {i : index.Ghosts I} {s : store.Ghosts (KeptStore D I g)} (left_by : D → told.Keep → Content) (names : List Labels) (settings : List ZoneSpec) (all : List (List ℕ)) (first : Primary I (KeptStore D I g) i s) where
+module _ {D I : Type 0} {g : Ghosts D} {i : zone_index.Ghosts I} {s : store.Ghosts (KeptStore D I g)} (left_by : D → told.Keep → Content) (names : List Labels) (settings : List ZoneSpec) (all : List (List ℕ)) (first : Primary I (KeptStore D I g) i s) where
   abbrev pub AreRunUpTo : ℕ → List (List ℕ) → Option (List ℕ) → Option (List ℕ) → Option (Primary I (KeptStore D I g) i s) → List D → Type 0
   AreRunUpTo number left out out_now p devices =
       (start : Machine) → IsMachineReached names settings start → IsKept first start → (now : Standing) × IsRunUpTo names (IsCrash g left_by names settings) start all number left out out_now now × IsAt names settings p devices now

@@ -20,7 +20,7 @@ keep_or_none None = These []
 keep_or_none (Some k) = k.keep
 
 abbrev pub keep_at : List ZoneKeep → ℕ → Keep
-keep_at keeps place = keep_or_none (find (λ (k : ZoneKeep). k.zone == place) keeps)
+keep_at keeps index = keep_or_none (find (λ (k : ZoneKeep). k.zone == index) keeps)
 
 -- It is passed to a device as this.
 abbrev pub IsToldAs : Keep → told.Keep → Type 0
@@ -41,10 +41,10 @@ pub record IsLeftBy {D : Type 0} (g : Ghosts D) (kept : D → told.Keep → Cont
 -- The devices of zones, those from this position on.
 abbrev pub AreLeftBy : {D : Type 0} → Ghosts D → (D → told.Keep → Content) → List ZoneKeep → ℕ → List D
     → List D → Type 0
-AreLeftBy g kept keeps place [] [] = Unit {0}
-AreLeftBy g kept keeps place (d ∷ olds) (e ∷ news) =
-    IsLeftBy g kept (keep_at keeps place) d e × AreLeftBy g kept keeps (suc place) olds news
-AreLeftBy g kept keeps place _ _ = ⊥
+AreLeftBy g kept keeps index [] [] = Unit {0}
+AreLeftBy g kept keeps index (d ∷ olds) (e ∷ news) =
+    IsLeftBy g kept (keep_at keeps index) d e × AreLeftBy g kept keeps (suc index) olds news
+AreLeftBy g kept keeps index _ _ = ⊥
 
 -- The device holds a zone of which nothing is staged, and this is that zone, opened once more.
 pub record IsOpenedOver {D : Type 0} (g : Ghosts D) (device : D) (z : ZoneState) : Type 0 where

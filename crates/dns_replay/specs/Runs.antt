@@ -6,7 +6,7 @@ use Rattle.dns_zone.specs.Zone.{Zone}
 use Rattle.dns_sectors.specs.Device.{Content}
 use Rattle.dns_sectors.specs.declared.device.Sectors.{Ghosts}
 use Rattle.dns_sectors.specs.declared.memory.Keep as told
-use Rattle.dns_zone.specs.declared.index.ZoneIndex as index
+use Rattle.dns_zone.specs.declared.index.ZoneIndex as zone_index
 use Rattle.dns_store.specs.declared.zone_store.ZoneStore as store
 use Rattle.dns_store.specs.declared.kept_store.KeptStore.{KeptStore}
 use Rattle.dns_primary.specs.declared.event.Effects.{Effects}
@@ -47,7 +47,7 @@ abbrev pub crash_by : List ZoneKeep → Option ℕ → Commanded
 crash_by keeps None = Crashes keeps
 crash_by keeps (Some n) = Reopens keeps
 
-module _ {D I : Type 0} {g : Ghosts D} {i : index.Ghosts I} {s : store.Ghosts (KeptStore D I g)}
+module _ {D I : Type 0} {g : Ghosts D} {i : zone_index.Ghosts I} {s : store.Ghosts (KeptStore D I g)}
     (names : List Labels) (settings : List ZoneSpec)
   where
     -- A primary keeps the machine; or of one that stopped within an event these devices are left.
@@ -66,9 +66,9 @@ module _ {D I : Type 0} {g : Ghosts D} {i : index.Ghosts I} {s : store.Ghosts (K
 
 -- A store was refused, as is printed.
 pub record RefusesStore (origins : List Labels) (out out_after : Option (List ℕ)) : Type 0 where
-  pub place : ℕ
+  pub index : ℕ
   pub error : OpenError
-  pub printed : Appends out out_after (printed_refusal (slice_get origins place) error)
+  pub printed : Appends out out_after (printed_refusal (slice_get origins index) error)
 
 -- A stop fell in the opening, which was to have one, and these are the devices; or the run ends.
 abbrev pub IsOpeningRefused : {D : Type 0} → List Labels → Option ℕ → List D → List D → Option (List ℕ)
@@ -78,7 +78,7 @@ IsOpeningRefused names stop devices left out out_after GoesOn =
 IsOpeningRefused names stop devices left out out_after Refused = RefusesStore names out out_after
 IsOpeningRefused names stop devices left out out_after NoCommand = ⊥
 
-module _ {D I : Type 0} {g : Ghosts D} {i : index.Ghosts I} {s : store.Ghosts (KeptStore D I g)}
+module _ {D I : Type 0} {g : Ghosts D} {i : zone_index.Ghosts I} {s : store.Ghosts (KeptStore D I g)}
     (kept : D → told.Keep → Content) where
   -- What is said leads on, or ends the run.
   abbrev pub DoesBy : List Labels → List ZoneSpec → Commanded
@@ -116,7 +116,7 @@ pub record IsMachineReached (names : List Labels) (settings : List ZoneSpec) (m 
 
 -- From each such machine that the primary kept, the lines lead there, by moments that are a run of the
 -- machine.
-abbrev pub RanScript : {D I : Type 0} {g : Ghosts D} {i : index.Ghosts I} {s : store.Ghosts (KeptStore D I g)}
+abbrev pub RanScript : {D I : Type 0} {g : Ghosts D} {i : zone_index.Ghosts I} {s : store.Ghosts (KeptStore D I g)}
     → (D → told.Keep → Content) → List Labels → List ZoneSpec → List (List ℕ) → Ending
     → Primary I (KeptStore D I g) i s → Option (List ℕ) → Option (List ℕ) → Type 0
 RanScript {g} kept names settings lines ending primary out out_after =

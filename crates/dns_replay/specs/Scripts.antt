@@ -50,7 +50,7 @@ commanded_by (script.Message number octets) = Happens (Arrives number octets)
 commanded_by (script.Pump number) = Happens (machine.Pump number)
 commanded_by (script.Close number) = Happens (Closed number)
 commanded_by script.Flush = Happens machine.Flush
-commanded_by (script.Checkpoint place) = Happens (machine.Checkpoint place)
+commanded_by (script.Checkpoint index) = Happens (machine.Checkpoint index)
 commanded_by (script.Fail n) = Plans
 commanded_by (script.Stop n) = Plans
 commanded_by (script.Crash keeps) = Crashes keeps
@@ -75,7 +75,7 @@ printed_connection (machine.Connect peer) accepted = printed_number accepted
 printed_connection (machine.Datagram peer octets) accepted = []
 printed_connection (Arrives number octets) accepted = []
 printed_connection machine.Flush accepted = []
-printed_connection (machine.Checkpoint place) accepted = []
+printed_connection (machine.Checkpoint index) accepted = []
 printed_connection (machine.Pump number) accepted = []
 printed_connection (Closed number) accepted = []
 
@@ -87,7 +87,7 @@ printed_origin (Some origin) = codes "device " ++ printed_name origin ++ 10 ∷ 
 abbrev pub printed_noted : List Labels → Noted → List ℕ
 printed_noted origins noted.Nothing = []
 printed_noted origins noted.OutOfMemory = []
-printed_noted origins (noted.Device place) = printed_origin (slice_get origins place)
+printed_noted origins (noted.Device index) = printed_origin (slice_get origins index)
 
 -- The effects of an event: its replies in order, then the number of its connection, then the device.
 abbrev pub printed_effects : List Labels → Event → Effects → List ℕ
@@ -237,9 +237,9 @@ pub record LineRefuses (origins : List Labels) (line text : List ℕ) : Type 0 w
   pub command : Command
   pub says : SaysCommand origins line command
   pub crashes : MayRefuse (commanded_by command)
-  pub place : ℕ
+  pub index : ℕ
   pub error : OpenError
-  pub printed : text ≡ printed_refusal (slice_get origins place) error
+  pub printed : text ≡ printed_refusal (slice_get origins index) error
 
 abbrev pub IsNoCommand : List Labels → List ℕ → Type 0
 IsNoCommand origins line = (c : Command) → ¬ (SaysCommand origins line c)

@@ -45,23 +45,23 @@ pub(crate) trait ShowsVersions {
     ghost shows: { Self → ℕ → Option (ℕ × ℕ) → Type 0 };
 
     /// The number of the version that is shown of the zone at a position, and its serial.
-    fn version_at(&self, place: usize) -> Option<(u64, u32)>
-        ensures { shows self.now place result };
+    fn version_at(&self, index: usize) -> Option<(u64, u32)>
+        ensures { shows self.now index result };
 }
 
 impl<I: ZoneIndex, S: ZoneStore> ShowsVersions for Primary<I, S> {
-    ghost shows = { λ p place version. (m : Machine) → IsKept p m
-        → version ≡ shown_version (slice_get m.zones place) };
+    ghost shows = { λ p index version. (m : Machine) → IsKept p m
+        → version ≡ shown_version (slice_get m.zones index) };
 
-    fn version_at(&self, place: usize) -> Option<(u64, u32)> {
-        let (number, zone) = self.shown(place)?;
+    fn version_at(&self, index: usize) -> Option<(u64, u32)> {
+        let (number, zone) = self.shown(index)?;
         Some((number, zone.soa().serial()))
     }
 }
 
 /// The number of the version that is shown of the zone at a position, and its serial.
-pub(crate) fn version_at<P: ShowsVersions>(primary: &P, place: usize) -> Option<(u64, u32)>
-    ensures { P.shows primary.now place result }
+pub(crate) fn version_at<P: ShowsVersions>(primary: &P, index: usize) -> Option<(u64, u32)>
+    ensures { P.shows primary.now index result }
 {
-    primary.version_at(place)
+    primary.version_at(index)
 }

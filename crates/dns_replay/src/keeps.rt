@@ -81,7 +81,7 @@ pub(crate) fn place_named(
     origins: &[Name],
     text: &[u8],
 ) -> Result<Option<usize>, AllocError>
-    ensures { IfOk result (λ place. place ≡ place_named origins.now text.now) }
+    ensures { IfOk result (λ index. index ≡ place_named origins.now text.now) }
 {
     match Name::from_text(alloc, text, &Name::root(alloc)) {
         Ok(name) => Ok(place_of(origins, &name)),

@@ -75,10 +75,10 @@ fn print_noted<W: Write>(origins: &[Name], noted: Noted, out: &mut W) -> io::Res
     ensures { OnOk result
         (Appends (W.contents out.old) (W.contents out.new) (printed_noted origins.now noted)) }
 {
-    let Noted::Device(place) = noted else {
+    let Noted::Device(index) = noted else {
         return Ok(());
     };
-    match origins.get(place) {
+    match origins.get(index) {
         Some(origin) => writeln!(out, "device {origin}"),
         None => Ok(()),
     }
@@ -142,17 +142,17 @@ fn print_recovered_zone<W: Write>(
 fn print_recovered_at<D: ScriptDevice, I: ZoneIndex, W: Write>(
     origins: &[Name],
     primary: &Primary<I, KeptStore<D, I>>,
-    place: usize,
+    index: usize,
     out: &mut W,
 ) -> io::Result<()>
     ensures { OnOk result
         ((m : Machine) → IsKept primary.now m → Appends (W.contents out.old) (W.contents out.new)
-        (recovered_zone (slice_get origins.now place) (slice_get m.zones place))) }
+        (recovered_zone (slice_get origins.now index) (slice_get m.zones index))) }
 {
-    let Some(origin) = origins.get(place) else {
+    let Some(origin) = origins.get(index) else {
         return Ok(());
     };
-    match version_at(primary, place) {
+    match version_at(primary, index) {
         Some((number, serial)) => print_recovered_zone(origin, number, serial, out),
         None => Ok(()),
     }
@@ -168,8 +168,8 @@ pub(crate) fn print_recovered<D: ScriptDevice, I: ZoneIndex, W: Write>(
         ((m : Machine) → IsKept primary.now m → Appends (W.contents out.old) (W.contents out.new)
         (recovered_zones origins.now m.zones (length origins.now))) }
 {
-    for place in 0..origins.len() {
-        print_recovered_at(origins, primary, place, out)?;
+    for index in 0..origins.len() {
+        print_recovered_at(origins, primary, index, out)?;
     }
     Ok(())
 }
@@ -203,15 +203,15 @@ fn print_refused_zone<W: Write>(origin: &Name, error: OpenError, out: &mut W) ->
 /// Prints that the store of the zone at a position is refused.
 pub(crate) fn print_refusal<W: Write>(
     origins: &[Name],
-    place: usize,
+    index: usize,
     error: OpenError,
     out: &mut W,
 ) -> io::Result<()>
     ensures { OnOk result
         (Appends (W.contents out.old) (W.contents out.new)
-        (printed_refusal (slice_get origins.now place) error)) }
+        (printed_refusal (slice_get origins.now index) error)) }
 {
-    match origins.get(place) {
+    match origins.get(index) {
         Some(origin) => print_refused_zone(origin, error, out),
         None => Ok(()),
     }

@@ -82,18 +82,18 @@ fn told_as(keep: &Keep) -> dns_sectors::Keep<'_>
 }
 
 /// What is said of the zone at a position.
-fn said_of(keeps: &[ZoneKeep], place: usize) -> Option<&ZoneKeep>
-    ensures { option_copied result ≡ find (λ k. k.zone == place) keeps.now }
+fn said_of(keeps: &[ZoneKeep], index: usize) -> Option<&ZoneKeep>
+    ensures { option_copied result ≡ find (λ k. k.zone == index) keeps.now }
 {
-    keeps.iter().find(|one| one.zone == place)
+    keeps.iter().find(|one| one.zone == index)
 }
 
 /// What is kept of the writes that are pending on the device of the zone at a position: none where nothing is
 /// said of it.
-fn keep_at(keeps: &[ZoneKeep], place: usize) -> dns_sectors::Keep<'_>
-    ensures { IsToldAs (keep_at (map said_zone_keep keeps.now) place) result }
+fn keep_at(keeps: &[ZoneKeep], index: usize) -> dns_sectors::Keep<'_>
+    ensures { IsToldAs (keep_at (map said_zone_keep keeps.now) index) result }
 {
-    match said_of(keeps, place) {
+    match said_of(keeps, index) {
         Some(one) => told_as(&one.keep),
         None => dns_sectors::Keep::These(&[]),
     }
@@ -112,9 +112,9 @@ fn crash_all<D: ScriptDevice>(
     let mut devices = devices;
     let count = devices.len();
     let mut left = Vec::with_capacity(alloc, count)?;
-    for place in 0..count {
+    for index in 0..count {
         let device = devices.remove(0);
-        left.push_reserved(device.after_crash(keep_at(keeps, place)));
+        left.push_reserved(device.after_crash(keep_at(keeps, index)));
     }
     Ok(left)
 }
@@ -275,7 +275,7 @@ fn keep_refused<D: ScriptDevice, W: Write>(
     if refused.error == OpenError::OutOfMemory {
         return Err(AllocError.into());
     }
-    print_refusal(world.origins, refused.place, refused.error, out)?;
+    print_refusal(world.origins, refused.index, refused.error, out)?;
     Ok(After::Refused)
 }
 

@@ -133,8 +133,8 @@ fn run_command<D: ScriptDevice, I: ZoneIndex, W: Write>(
             run_event(world, primary, devices, event, out)
         }
         Command::Flush => run_event(world, primary, devices, Event::Flush, out),
-        Command::Checkpoint(place) => {
-            let event = Event::Checkpoint(*place);
+        Command::Checkpoint(index) => {
+            let event = Event::Checkpoint(*index);
             run_event(world, primary, devices, event, out)
         }
     }

@@ -22,7 +22,7 @@ use std::rc::Rc;
 /// Why no store was made: the position of the zone, and what was wrong.
 #[derive(Clone, Copy, Debug, PartialEq, Eq)]
 pub struct NotMade {
-    pub place: usize,
+    pub index: usize,
     pub error: FormatError,
 }
 
@@ -85,10 +85,10 @@ fn make_all<D: ScriptDevice, I: ZoneIndex>(
     ensures { IfOk result (λ devices. Each3 (IsMadeOf D.Sectors) zones.now settings.now devices.items) }
 {
     let mut devices = Vec::new(alloc);
-    for place in 0..zones.len() {
-        match make_into(alloc, &mut devices, &zones[place], &settings[place], plan) {
+    for index in 0..zones.len() {
+        match make_into(alloc, &mut devices, &zones[index], &settings[index], plan) {
             Ok(()) => {}
-            Err(error) => return Err(NotMade { place, error }),
+            Err(error) => return Err(NotMade { index, error }),
         }
     }
     Ok(devices)
@@ -132,7 +132,7 @@ pub fn replay_zones<D: ScriptDevice, I: ZoneIndex, W: Write>(
     ensures refused { IfErr result (λ _. W.contents out.new ≡ W.contents out.old) }
 {
     let no_memory = NotMade {
-        place: 0,
+        index: 0,
         error: FormatError::OutOfMemory,
     };
     let Ok(plan) = Rc::new(alloc, Plan::new()) else {

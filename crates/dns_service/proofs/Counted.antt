@@ -6,7 +6,7 @@ use Rattle.std.specs.Prelude.{◌+◌, ◌==◌, nat_le, not, ◌&&◌, is_ok}
 use Rattle.std.specs.Io.KnownBytes.{Appends}
 use Rattle.std.proofs.KnownBytes.{Appends-nil, Appends-trans}
 use Rattle.dns_names.specs.Name.{Labels}
-use Rattle.dns_zone.specs.declared.index.ZoneIndex as index
+use Rattle.dns_zone.specs.declared.index.ZoneIndex as zone_index
 use Rattle.dns_store.specs.declared.zone_store.ZoneStore as store
 use Rattle.dns_primary.specs.Keeps.{IsKept}
 use Rattle.dns_primary.specs.Machine.{Machine}
@@ -58,7 +58,7 @@ both_true true false is = absurd (let clash : false ≡ true = is in cc)
 both_true false b is = absurd (let clash : false ≡ true = is in cc)
 
 -- A primary that is served, and what the output holds.
-pub record ServedTo (I D S N L : Type 0) (i : index.Ghosts I) (d : store.Ghosts D) : Type 0 where
+pub record ServedTo (I D S N L : Type 0) (i : zone_index.Ghosts I) (d : store.Ghosts D) : Type 0 where
   pub served : Served I D S N L i d
   pub out : Option (List ℕ)
 
@@ -78,7 +78,7 @@ module _ {L : Type 0} (l : notes.Ghosts L) (counting : L → Counting) (noted : 
       all_counted rest between new (with_report c one) pending (ap (λ (x : Counting). x.is_on) step ∙ on)
       (ap (λ (x : Counting). x.counters) step ∙ ap (λ (b : Bool). counted b (counting old).counters one) on ∙ ap (λ (x : Counters). with_report x one) is)
 
-module _ {I D S N L : Type 0} {i : index.Ghosts I} {d : store.Ghosts D} (s : stream.Ghosts S) (n : Ghosts N S) (l : notes.Ghosts L) (counting : L → Counting) (every : ℕ) (origins : List Labels) where
+module _ {I D S N L : Type 0} {i : zone_index.Ghosts I} {d : store.Ghosts D} (s : stream.Ghosts S) (n : Ghosts N S) (l : notes.Ghosts L) (counting : L → Counting) (every : ℕ) (origins : List Labels) where
   -- A turn is made, after which nothing is told, or the counts are.
   pub record IsCountedRound (turn : List TurnMoment) (a b : ServedTo I D S N L i d) : Type 0 where
     pub round : IsRound s n l turn a.served b.served

@@ -4,7 +4,7 @@ use Rattle.std.specs.Prelude.{All, nat_eq}
 use Rattle.std.specs.List.{AllZip, flat_map}
 use Rattle.std.proofs.lemmas.List.{get_or-append-add}
 use Rattle.std.proofs.lemmas.List.Elements.{All-append, filter-append}
-use Rattle.dns_zone.specs.declared.index.ZoneIndex as index
+use Rattle.dns_zone.specs.declared.index.ZoneIndex as zone_index
 use Rattle.dns_store.specs.declared.zone_store.ZoneStore as store
 use Rattle.dns_primary.specs.declared.event.Peer.{Peer}
 use Rattle.dns_primary.specs.declared.event.To.{To}
@@ -117,7 +117,7 @@ module _ {C : Type 0} (c : Ghosts C) where
     pub sends : (a b : N) (peer : Peer) (octets : List ℕ) → n.sends a peer octets b → HaveCarried c ((octets, peer) ∷ []) [] (sockets a) (sockets b)
     pub looks : (a b : N) → n.looks a b → HaveCarried c [] [] (sockets a) (sockets b)
 
-  module _ {I D S N L : Type 0} {i : index.Ghosts I} {d : store.Ghosts D} (s : stream.Ghosts S) (n : network.Ghosts N S) (l : notes.Ghosts L)
+  module _ {I D S N L : Type 0} {i : zone_index.Ghosts I} {d : store.Ghosts D} (s : stream.Ghosts S) (n : network.Ghosts N S) (l : notes.Ghosts L)
       (sockets : N → List (Datagrams (Udp C))) (passes : Passes n sockets) where
     abbrev view : Served I D S N L i d → List (Datagrams (Udp C))
     view served = sockets served.network
@@ -156,7 +156,7 @@ module _ {C : Type 0} (c : Ghosts C) where
     came_carries now (events.Pump number) old given h = no_more (view old) (view given) (ap view h)
     came_carries now events.Flush old given h = no_more (view old) (view given) (ap view h)
     came_carries now (events.Connect peer) old given h = absurd h
-    came_carries now (events.Checkpoint place) old given h = absurd h
+    came_carries now (events.Checkpoint index) old given h = absurd h
     came_carries now (events.Closed number) old given h = absurd h
 
     going_carries : (goings : List Going) (old new : Served I D S N L i d) → AreGoing n l goings old new
@@ -236,7 +236,7 @@ module _ {C : Type 0} (c : Ghosts C) where
         (λ x moments y h. round_carries moments x y h)
 
 -- ... whatever the network is.
-pub carried_in : {I D S N L C : Type 0} {i : index.Ghosts I} {d : store.Ghosts D} (s : stream.Ghosts S) (n : network.Ghosts N S) (l : notes.Ghosts L) (c : Ghosts C)
+pub carried_in : {I D S N L C : Type 0} {i : zone_index.Ghosts I} {d : store.Ghosts D} (s : stream.Ghosts S) (n : network.Ghosts N S) (l : notes.Ghosts L) (c : Ghosts C)
     (sockets : N → List (Datagrams (Udp C))) (turns : List (List TurnMoment)) (old new : Served I D S N L i d) → AreTurns s n l turns old new → Passes c n sockets
     → Carries c (sent_in_turns turns) (told_in_turns turns) (sockets old.network) (sockets new.network)
 carried_in s n l c sockets turns old new made passes = turns_carry c s n l sockets passes turns old new made

@@ -92,16 +92,16 @@ named [] = refl
 named (z ∷ zones) = ap suc (named zones)
 
 -- The fault of the device there.
-pub fault_there : {D : Type 0} (g : Ghosts D) (error : OpenError) (devices afters : List D) (place : ℕ) (d e : D) (fault : DeviceFault) → place < length devices → d ≡ get_or devices place d → afters ≡ set devices place e → IsFaultOf g error d e fault → IsFaultAt g error devices afters place fault
-fault_there g error [] afters place d e fault inside is same h = absurd (omega (arith, inside))
+pub fault_there : {D : Type 0} (g : Ghosts D) (error : OpenError) (devices afters : List D) (index : ℕ) (d e : D) (fault : DeviceFault) → index < length devices → d ≡ get_or devices index d → afters ≡ set devices index e → IsFaultOf g error d e fault → IsFaultAt g error devices afters index fault
+fault_there g error [] afters index d e fault inside is same h = absurd (omega (arith, inside))
 fault_there g error (x ∷ xs) afters zero d e fault inside is same h =
     subst (λ (l : List _). IsFaultAt g error (x ∷ xs) l zero fault) (sym same) (e, refl, subst (λ y. IsFaultOf g error y e fault) is h)
-fault_there g error (x ∷ xs) afters (suc place) d e fault inside is same h =
-    subst (λ (l : List _). IsFaultAt g error (x ∷ xs) l (suc place) fault) (sym same) (fault_there g error xs (set xs place e) place d e fault (omega (arith, inside)) is refl h)
+fault_there g error (x ∷ xs) afters (suc index) d e fault inside is same h =
+    subst (λ (l : List _). IsFaultAt g error (x ∷ xs) l (suc index) fault) (sym same) (fault_there g error xs (set xs index e) index d e fault (omega (arith, inside)) is refl h)
 
 -- Where there is none.
-pub fault_none : {D : Type 0} (g : Ghosts D) (error : OpenError) (devices afters : List D) (place : ℕ) (fault : DeviceFault) → length devices ≤ place → fault ≡ fault_of_open error → IsFaultAt g error devices afters place fault
-fault_none g error [] afters place fault beyond h = h
+pub fault_none : {D : Type 0} (g : Ghosts D) (error : OpenError) (devices afters : List D) (index : ℕ) (fault : DeviceFault) → length devices ≤ index → fault ≡ fault_of_open error → IsFaultAt g error devices afters index fault
+fault_none g error [] afters index fault beyond h = h
 fault_none g error (x ∷ xs) afters zero fault beyond h = absurd (omega (arith, beyond))
-fault_none g error (x ∷ xs) [] (suc place) fault beyond h = fault_none g error xs [] place fault (omega (arith, beyond)) h
-fault_none g error (x ∷ xs) (y ∷ afters) (suc place) fault beyond h = fault_none g error xs afters place fault (omega (arith, beyond)) h
+fault_none g error (x ∷ xs) [] (suc index) fault beyond h = fault_none g error xs [] index fault (omega (arith, beyond)) h
+fault_none g error (x ∷ xs) (y ∷ afters) (suc index) fault beyond h = fault_none g error xs afters index fault (omega (arith, beyond)) h

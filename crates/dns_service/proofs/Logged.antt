@@ -124,13 +124,13 @@ listening_push : (addresses : List SocketAddr) (address : SocketAddr) → listen
 listening_push [] address = append-nil (listening_line address)
 listening_push (a ∷ addresses) address = ap (λ (x : List ℕ). listening_line a ++ x) (listening_push addresses address) ∙ sym (append_assoc (listening_line a) (listening_lines addresses) (listening_line address))
 
-pub listening_more : (addresses : List SocketAddr) (other : SocketAddr) (place : ℕ) (err between err_after : Option (List ℕ)) → place < length addresses
-    → Appends err between (listening_lines (take place addresses)) → Appends between err_after (listening_line (get_or addresses place other))
-    → Appends err err_after (listening_lines (take (place + 1) addresses))
-listening_more addresses other place err between err_after lt first more =
-    let here = get_or addresses place other in
-    subst (λ (x : List ℕ). Appends err err_after x) (sym (ap listening_lines (take_more addresses place other lt) ∙ listening_push (take place addresses) here))
-    (Appends-trans err between err_after (listening_lines (take place addresses)) (listening_line here) first more)
+pub listening_more : (addresses : List SocketAddr) (other : SocketAddr) (index : ℕ) (err between err_after : Option (List ℕ)) → index < length addresses
+    → Appends err between (listening_lines (take index addresses)) → Appends between err_after (listening_line (get_or addresses index other))
+    → Appends err err_after (listening_lines (take (index + 1) addresses))
+listening_more addresses other index err between err_after lt first more =
+    let here = get_or addresses index other in
+    subst (λ (x : List ℕ). Appends err err_after x) (sym (ap listening_lines (take_more addresses index other lt) ∙ listening_push (take index addresses) here))
+    (Appends-trans err between err_after (listening_lines (take index addresses)) (listening_line here) first more)
 
 -- The line of one zone more.
 abbrev pub line_at : Labels → Option ZoneState → List ℕ
@@ -145,12 +145,12 @@ lines_push (o ∷ origins) origin (z ∷ zones) =
     let here = zone_line o (length z.shown) (shown_zone (kept_of z)) in
     ap (λ (x : List ℕ). here ++ x) (lines_push origins origin zones) ∙ sym (append_assoc here (zone_lines origins zones) (line_at origin (slice_get zones (length origins))))
 
-pub lines_more : (origins : List Labels) (other : Labels) (zones : List ZoneState) (place : ℕ) → place < length origins
-    → zone_lines (take (place + 1) origins) zones ≡ zone_lines (take place origins) zones ++ line_at (get_or origins place other) (slice_get zones place)
-lines_more origins other zones place lt =
-    let here = get_or origins place other in
-    ap (λ (x : List Labels). zone_lines x zones) (take_more origins place other lt) ∙ lines_push (take place origins) here zones
-    ∙ ap (λ (x : ℕ). zone_lines (take place origins) zones ++ line_at here (slice_get zones x)) (length-take-le place origins (omega (arith, lt)))
+pub lines_more : (origins : List Labels) (other : Labels) (zones : List ZoneState) (index : ℕ) → index < length origins
+    → zone_lines (take (index + 1) origins) zones ≡ zone_lines (take index origins) zones ++ line_at (get_or origins index other) (slice_get zones index)
+lines_more origins other zones index lt =
+    let here = get_or origins index other in
+    ap (λ (x : List Labels). zone_lines x zones) (take_more origins index other lt) ∙ lines_push (take index origins) here zones
+    ∙ ap (λ (x : ℕ). zone_lines (take index origins) zones ++ line_at here (slice_get zones x)) (length-take-le index origins (omega (arith, lt)))
 
 -- What is told of turns, after the lines of the zones.
 pub after_zones : {E : Type 0} (r : Result ℕ E) (t : Telling) (count : ℕ) (err between output script : Option (List ℕ)) (texts : Texts) (keeps : Machine → Type 0) (after : OfRun)
@@ -173,12 +173,12 @@ after_zones (Ok status) t count err between output script texts keeps after said
 )
 
 -- The line of one zone more was written, or there is no such zone.
-pub told_more : (origins : List Labels) (other : Labels) (zones : List ZoneState) (place : ℕ) (err between err_after : Option (List ℕ)) → place < length origins
-    → Appends err between (zone_lines (take place origins) zones) → Appends between err_after (line_at (get_or origins place other) (slice_get zones place))
-    → Appends err err_after (zone_lines (take (place + 1) origins) zones)
-told_more origins other zones place err between err_after lt first more =
-    let here = line_at (get_or origins place other) (slice_get zones place) in
-    subst (λ (x : List ℕ). Appends err err_after x) (sym (lines_more origins other zones place lt)) (Appends-trans err between err_after (zone_lines (take place origins) zones) here first more)
+pub told_more : (origins : List Labels) (other : Labels) (zones : List ZoneState) (index : ℕ) (err between err_after : Option (List ℕ)) → index < length origins
+    → Appends err between (zone_lines (take index origins) zones) → Appends between err_after (line_at (get_or origins index other) (slice_get zones index))
+    → Appends err err_after (zone_lines (take (index + 1) origins) zones)
+told_more origins other zones index err between err_after lt first more =
+    let here = line_at (get_or origins index other) (slice_get zones index) in
+    subst (λ (x : List ℕ). Appends err err_after x) (sym (lines_more origins other zones index lt)) (Appends-trans err between err_after (zone_lines (take index origins) zones) here first more)
 
 pub no_line : (origin : Labels) (z : Option ZoneState) (err err_after : Option (List ℕ)) → z ≡ None → err_after ≡ err → Appends err err_after (line_at origin z)
 no_line origin z err err_after none same =

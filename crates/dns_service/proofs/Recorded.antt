@@ -2,7 +2,7 @@
 use Rattle.std.proofs.Common.{◌≡◌, inl, inr, ℕ, Bool, true, false, List, [], ◌∷◌, ◌++◌, Option, Some, None, refl, sym, ap, subst, ◌∙◌, append-nil}
 use Rattle.std.specs.Io.KnownBytes.{Appends, append_known}
 use Rattle.std.proofs.KnownBytes.{Appends-trans}
-use Rattle.dns_zone.specs.declared.index.ZoneIndex as index
+use Rattle.dns_zone.specs.declared.index.ZoneIndex as zone_index
 use Rattle.dns_store.specs.declared.zone_store.ZoneStore as store
 use Rattle.dns_primary.specs.Step.{Event}
 use Rattle.dns_primary.specs.declared.event.Effects.{Effects}
@@ -118,7 +118,7 @@ module _ {L : Type 0} (l : notes.Ghosts L) (comments : List ℕ) (script : Optio
   as_wanted false first all none = none_wanted first all
 
 -- Turns were made over a recorder of any kind, which stays the same one, and all lines of it are written.
-pub has_recorded : {I D S N R L M : Type 0} {i : index.Ghosts I} {d : store.Ghosts D} {s : stream.Ghosts S} {n : Ghosts N S} {r : notes.Ghosts R} {l : notes.Ghosts L}
+pub has_recorded : {I D S N R L M : Type 0} {i : zone_index.Ghosts I} {d : store.Ghosts D} {s : stream.Ghosts S} {n : Ghosts N S} {r : notes.Ghosts R} {l : notes.Ghosts L}
     {count : ℕ} {old new : Primary I D i d} {network network' : N} {first last : R} {log log_after : L} {script_after : Option (List ℕ)}
     → RestLaw d → (is : IsServedOn s n r count old network first new network' last) (more : List (List TurnMoment) → Machine → Type 0) → ((m : Machine) → IsKept old m → more is.turns m)
     → (mark : R → M) (state : R → Recording) (behind : R → L)

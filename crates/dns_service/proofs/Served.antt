@@ -5,7 +5,7 @@ use Rattle.std.specs.Option.{option_copied}
 use Rattle.std.specs.Result.{IsErr, result_unwrap_or}
 use Rattle.std.specs.Io.KnownBytes.{Appends}
 use Rattle.dns_zone.specs.Zone.{Zone}
-use Rattle.dns_zone.specs.declared.index.ZoneIndex as index
+use Rattle.dns_zone.specs.declared.index.ZoneIndex as zone_index
 use Rattle.dns_sectors.specs.Device.{Content, LeavesOnly}
 use Rattle.dns_sectors.specs.declared.device.Sectors.{Ghosts}
 use Rattle.dns_sectors.proofs.Moments.{joined, weaker}
@@ -22,7 +22,7 @@ use Rattle.dns_devices.specs.declared.device_faults.DeviceFault.{DeviceFault}
 use Rattle.dns_devices.specs.DeviceCalls.{DeviceCall}
 use Rattle.dns_names.specs.Name.{Labels}
 use Rattle.dns_configuration.specs.Known.{origins_of}
-use Rattle.dns_versions.specs.declared.pending.PendingZone.{PendingZone}
+use Rattle.dns_versions.specs.declared.zone_versions.ZoneVersions.{ZoneVersions}
 use Rattle.dns_versions.specs.Each.{Each2}
 use Rattle.dns_primary.specs.HandOut.{AreSetAs}
 use Rattle.dns_primary.specs.Keeps.{IsKept}
@@ -70,11 +70,11 @@ configuration_refused g config options fault before after holds said = record {
 }
 
 -- The zones of a machine whose devices may be opened again were opened for these names and settings.
-recoverable_set : {D : Type 0} (g : Ghosts D) (tries : ℕ) (m : Machine) (event : Event) (place : ℕ) (zones : List ZoneState) (names : List Labels) (known : List ZoneSpec) (devices : List D) → AreRecoverable g tries m event place zones names known devices → AreSetAs names known zones
-recoverable_set g tries m event place [] [] [] [] h = tt
-recoverable_set g tries m event place (z ∷ zones) (a ∷ names) (s ∷ known) (d ∷ devices) h =
-    (record { shape = h.0.shape; set = h.0.set; range = h.0.range }, recoverable_set g tries m event (suc place) zones names known devices h.1)
-recoverable_set g tries m event place _ _ _ _ h = absurd h
+recoverable_set : {D : Type 0} (g : Ghosts D) (tries : ℕ) (m : Machine) (event : Event) (index : ℕ) (zones : List ZoneState) (names : List Labels) (known : List ZoneSpec) (devices : List D) → AreRecoverable g tries m event index zones names known devices → AreSetAs names known zones
+recoverable_set g tries m event index [] [] [] [] h = tt
+recoverable_set g tries m event index (z ∷ zones) (a ∷ names) (s ∷ known) (d ∷ devices) h =
+    (record { shape = h.0.shape; set = h.0.set; range = h.0.range }, recoverable_set g tries m event (suc index) zones names known devices h.1)
+recoverable_set g tries m event index _ _ _ _ h = absurd h
 
 -- In a run that turns make the zones keep their settings.
 run_set : (told : List Told) (start : Machine) (run : List Moment) → Run start run → Each2 IsStepOf told run → Each2 StaysSet start.zones (last_of start run).zones
@@ -86,36 +86,36 @@ run_set (t ∷ told) start (Stopped event tries new ∷ run) r each = absurd eac
 run_set (t ∷ told) start (Configured new ∷ run) r each = absurd each.0
 
 -- Whichever settings the zones had.
-pub whichever_set : {D : Type 0} (g : Ghosts D) (tries : ℕ) (m : Machine) (event : Event) (place : ℕ) (zones : List ZoneState) (names : List Labels) (known : List ZoneSpec) (devices : List D) → AreRecoverable g tries m event place zones names known devices → AreRecoverableAnew g tries m event place zones names known devices
-whichever_set g tries m event place [] [] [] [] h = tt
-whichever_set g tries m event place (z ∷ zones) (a ∷ names) (s ∷ known) (d ∷ devices) h =
-    (record { shape = h.0.shape; set = tt; range = h.0.range; honest = h.0.honest; leaves = h.0.leaves }, whichever_set g tries m event (suc place) zones names known devices h.1)
-whichever_set g tries m event place _ _ _ _ h = absurd h
+pub whichever_set : {D : Type 0} (g : Ghosts D) (tries : ℕ) (m : Machine) (event : Event) (index : ℕ) (zones : List ZoneState) (names : List Labels) (known : List ZoneSpec) (devices : List D) → AreRecoverable g tries m event index zones names known devices → AreRecoverableAnew g tries m event index zones names known devices
+whichever_set g tries m event index [] [] [] [] h = tt
+whichever_set g tries m event index (z ∷ zones) (a ∷ names) (s ∷ known) (d ∷ devices) h =
+    (record { shape = h.0.shape; set = tt; range = h.0.range; honest = h.0.honest; leaves = h.0.leaves }, whichever_set g tries m event (suc index) zones names known devices h.1)
+whichever_set g tries m event index _ _ _ _ h = absurd h
 
 -- What a crash leaves from the opening of devices to their closing.
 module _ {D I S : Type 0} (g : Ghosts D) (s : store.Ghosts S) (device_in : S → D) (tries : ℕ) (m : Machine) (event : Event) (start : Machine) (run : List Moment)
-    (there : (x y : S) (place : ℕ) → LeavesOnly s.moment s.left_since x y (OpensInRun s.opens start run place) → LeavesOnly g.moment g.left_since (device_in x) (device_in y) (OpensInRun opens start run place)) where
-  served_from : (place : ℕ) (zones : List ZoneState) (devices : List D) (olds news : List (PendingZone I S)) → LeaveRecovered g tries m event place zones devices (map (λ (b : PendingZone I S). device_in b.store) olds) → AreLeftFrom s place start run olds news
-      → AreServedFrom g tries m event start run place zones devices (map (λ (b : PendingZone I S). device_in b.store) news)
-  served_from place [] [] [] [] h k = tt
-  served_from place (z ∷ zones) (d ∷ devices) (a ∷ olds) (b ∷ news) h k =
-      let opened : Content → Type 0 = λ c. OpensAsRecovered opens tries (IsMaking m event place z) z c in
-      let ran : Content → Type 0 = λ c. OpensInRun opens start run place c in
+    (there : (x y : S) (index : ℕ) → LeavesOnly s.moment s.left_since x y (OpensInRun s.opens start run index) → LeavesOnly g.moment g.left_since (device_in x) (device_in y) (OpensInRun opens start run index)) where
+  served_from : (index : ℕ) (zones : List ZoneState) (devices : List D) (olds news : List (ZoneVersions I S)) → LeaveRecovered g tries m event index zones devices (map (λ (b : ZoneVersions I S). device_in b.store) olds) → AreLeftFrom s index start run olds news
+      → AreServedFrom g tries m event start run index zones devices (map (λ (b : ZoneVersions I S). device_in b.store) news)
+  served_from index [] [] [] [] h k = tt
+  served_from index (z ∷ zones) (d ∷ devices) (a ∷ olds) (b ∷ news) h k =
+      let opened : Content → Type 0 = λ c. OpensAsRecovered opens tries (IsMaking m event index z) z c in
+      let ran : Content → Type 0 = λ c. OpensInRun opens start run index c in
       let either : Content → Type 0 = λ c. opened c ⊎ ran c in (
         joined g.moment g.left_since d (device_in a.store) (device_in b.store) either ran
-            (weaker g.moment g.left_since d (device_in a.store) opened either h.0 (λ c left. inl left)) (there a.store b.store place k.0) (λ c left. inr left),
-        served_from (suc place) zones devices olds news h.1 k.1,
+            (weaker g.moment g.left_since d (device_in a.store) opened either h.0 (λ c left. inl left)) (there a.store b.store index k.0) (λ c left. inr left),
+        served_from (suc index) zones devices olds news h.1 k.1,
       )
-  served_from place [] (d ∷ devices) olds news h k = absurd h
-  served_from place (z ∷ zones) [] olds news h k = absurd h
-  served_from place [] [] (a ∷ olds) news h k = absurd h
-  served_from place [] [] [] (b ∷ news) h k = absurd k
-  served_from place (z ∷ zones) (d ∷ devices) [] news h k = absurd h
-  served_from place (z ∷ zones) (d ∷ devices) (a ∷ olds) [] h k = absurd k
+  served_from index [] (d ∷ devices) olds news h k = absurd h
+  served_from index (z ∷ zones) [] olds news h k = absurd h
+  served_from index [] [] (a ∷ olds) news h k = absurd h
+  served_from index [] [] [] (b ∷ news) h k = absurd k
+  served_from index (z ∷ zones) (d ∷ devices) [] news h k = absurd h
+  served_from index (z ∷ zones) (d ∷ devices) (a ∷ olds) [] h k = absurd k
 
 -- What ran from a machine that recovered, and whose devices were closed.
-module _ {D I : Type 0} (g : Ghosts D) {i : index.Ghosts I} {s : store.Ghosts (KeptStore D I g)} (c : Configuration) (opening : List (DeviceCall D)) (old new : Primary I (KeptStore D I g) i s) (is : IsServed g opening c.zones.items (IsOpenedAs old))
-    (there : (start : Machine) (run : List Moment) (x y : KeptStore D I g) (place : ℕ) → LeavesOnly s.moment s.left_since x y (OpensInRun s.opens start run place) → LeavesOnly g.moment g.left_since (store_device x) (store_device y) (OpensInRun opens start run place))
+module _ {D I : Type 0} (g : Ghosts D) {i : zone_index.Ghosts I} {s : store.Ghosts (KeptStore D I g)} (c : Configuration) (opening : List (DeviceCall D)) (old new : Primary I (KeptStore D I g) i s) (is : IsServed g opening c.zones.items (IsOpenedAs old))
+    (there : (start : Machine) (run : List Moment) (x y : KeptStore D I g) (index : ℕ) → LeavesOnly s.moment s.left_since x y (OpensInRun s.opens start run index) → LeavesOnly g.moment g.left_since (store_device x) (store_device y) (OpensInRun opens start run index))
     (left : (m : Machine) (event : Event) (names : List Labels) (known : List ZoneSpec) → IsKept new m → AreSetAs names known m.zones → AreRecoverable g 0 m event 0 m.zones names known (devices_of new)) where
   -- So it is of whichever machine the turns led to.
   led : (turns : List (List TurnMoment)) (m : Machine) (event : Event) (tries : ℕ) → AreRecoverable g tries m event 0 m.zones (origins_of c.zones.items) is.known is.devices → (start : Machine) → IsStopped tries m event start → IsOpenedAs old is.devices is.known m event tries start → HaveRun turns (IsLedTo old new) start
@@ -173,7 +173,7 @@ module _ {D I : Type 0} (g : Ghosts D) {i : index.Ghosts I} {s : store.Ghosts (K
   }
 
 -- Devices that were opened as zones were intact.
-pub all_intact : {D I : Type 0} {g : Ghosts D} (n : ℕ) (apexes : List Labels) (settings : List ZoneSpec) (devices : List D) (zones : List Zone) (pending : List (PendingZone I (KeptStore D I g))) → n ≡ length settings → length apexes ≡ length settings → length devices ≡ length settings
+pub all_intact : {D I : Type 0} {g : Ghosts D} (n : ℕ) (apexes : List Labels) (settings : List ZoneSpec) (devices : List D) (zones : List Zone) (pending : List (ZoneVersions I (KeptStore D I g))) → n ≡ length settings → length apexes ≡ length settings → length devices ≡ length settings
     → AreOpened n apexes settings devices zones pending → AreIntact g apexes settings devices
 all_intact n [] [] [] zones pending count named many h = tt
 all_intact n (a ∷ apexes) [] devices zones pending count named many h = absurd (omega (arith, named))
@@ -202,15 +202,15 @@ served g calls config c options before after status holds somehow (inl three) = 
 }
 
 -- A device is refused.
-pub device_refused : {D E : Type 0} (g : Ghosts D) (calls : List (DeviceCall D)) (config : File) (c : Configuration) (options : ServeOptions) (place : ℕ) (fault : DeviceFault) (before after : Texts) (r : Result ℕ E) → HoldsConfiguration (option_copied config.octets) (Ok c) → IsNotServed g calls c.zones.items place fault → IfOk r (IsRefusalTold c.zones.items place fault options.explain before.log after.log) → ServingEnds g calls config options before after (result_unwrap_or r 3)
-device_refused g calls config c options place fault before after (Err e) holds not h = serving_failed g calls config options before after (inr (c, holds, inl (place, fault, not)))
-device_refused {D = D} g calls config c options place fault before after (Ok status) holds not h = go h
+pub device_refused : {D E : Type 0} (g : Ghosts D) (calls : List (DeviceCall D)) (config : File) (c : Configuration) (options : ServeOptions) (index : ℕ) (fault : DeviceFault) (before after : Texts) (r : Result ℕ E) → HoldsConfiguration (option_copied config.octets) (Ok c) → IsNotServed g calls c.zones.items index fault → IfOk r (IsRefusalTold c.zones.items index fault options.explain before.log after.log) → ServingEnds g calls config options before after (result_unwrap_or r 3)
+device_refused g calls config c options index fault before after (Err e) holds not h = serving_failed g calls config options before after (inr (c, holds, inl (index, fault, not)))
+device_refused {D = D} g calls config c options index fault before after (Ok status) holds not h = go h
   where
-    go : IsRefusalTold c.zones.items place fault options.explain before.log after.log status → ServingEnds g calls config options before after status
-    go (inl e) = record { done = λ z. absurd (omega (arith, e, z)); refused = λ z. absurd (omega (arith, e, z)); others = inr e; called = inr (c, holds, inl (place, fault, not)) }
+    go : IsRefusalTold c.zones.items index fault options.explain before.log after.log status → ServingEnds g calls config options before after status
+    go (inl e) = record { done = λ z. absurd (omega (arith, e, z)); refused = λ z. absurd (omega (arith, e, z)); others = inr e; called = inr (c, holds, inl (index, fault, not)) }
     go (inr told) = record {
       done = λ z. absurd (let one = told.0 in omega (arith, one, z));
-      refused = λ _. (_, told.2.2, inr (c, holds, record { place = place; path = told.2.0; fault = fault; at = told.2.1; refused = not; says = refl; status = told.1 }));
+      refused = λ _. (_, told.2.2, inr (c, holds, record { index = index; path = told.2.0; fault = fault; at = told.2.1; refused = not; says = refl; status = told.1 }));
       others = inl (let one = told.0 in omega (arith, one));
-      called = inr (c, holds, inl (place, fault, not));
+      called = inr (c, holds, inl (index, fault, not));
     }

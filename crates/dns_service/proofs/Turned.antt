@@ -3,7 +3,7 @@ use Rattle.std.proofs.Common.{◌≡◌, ◌⊎◌, inl, inr, ℕ, ◌+◌, List
 use Rattle.std.proofs.lemmas.List.{length_push}
 use Rattle.dns_network.specs.declared.connection.Connection.{Connection}
 use Rattle.dns_network.specs.declared.stream.Stream as stream
-use Rattle.dns_zone.specs.declared.index.ZoneIndex as index
+use Rattle.dns_zone.specs.declared.index.ZoneIndex as zone_index
 use Rattle.dns_store.specs.declared.zone_store.ZoneStore as store
 use Rattle.dns_primary.specs.declared.primary.Primary.{Primary}
 use Rattle.dns_primary.specs.Keeps.{IsKept}
@@ -21,7 +21,7 @@ use Rattle.dns_network.specs.Left.{RestLaw}
 use Rattle.dns_network.proofs.Left.{leads_nowhere}
 use Rattle.dns_service.specs.ServedTurns.{HasPaused, HasRun, HasTurned, IsLedTo, IsServedOn, OfRun, served_at_start}
 
-module _ {I D S N L : Type 0} {i : index.Ghosts I} {d : store.Ghosts D} (s : stream.Ghosts S) (n : Ghosts N S) (l : notes.Ghosts L) where
+module _ {I D S N L : Type 0} {i : zone_index.Ghosts I} {d : store.Ghosts D} (s : stream.Ghosts S) (n : Ghosts N S) (l : notes.Ghosts L) where
   -- So many turns were made.
   abbrev pub Made : ℕ → Served I D S N L i d → Served I D S N L i d → Type 0
   Made count a b = (turns : List (List TurnMoment)) × (length turns ≡ count) × AreTurns s n l turns a b
@@ -56,7 +56,7 @@ module _ {I D S N L : Type 0} {i : index.Ghosts I} {d : store.Ghosts D} (s : str
   )
 
 -- ... whatever the network is.
-pub turned_from : {I D S N L : Type 0} {i : index.Ghosts I} {d : store.Ghosts D} {s : stream.Ghosts S} {n : Ghosts N S} {l : notes.Ghosts L}
+pub turned_from : {I D S N L : Type 0} {i : zone_index.Ghosts I} {d : store.Ghosts D} {s : stream.Ghosts S} {n : Ghosts N S} {l : notes.Ghosts L}
     {count : ℕ} {old new : Primary I D i d} {network network' : N} {first last : L} → RestLaw d → (said : List (List TurnMoment) → Machine → Type 0) (is : IsServedOn s n l count old network first new network' last)
     → ((m : Machine) → IsKept old m → Took l (AreReportsOfTurns is.turns) first last → said is.turns m)
     → HasTurned count said (λ m. IsKept old m) (IsLedTo old new)
@@ -73,10 +73,10 @@ pub some_run : (count : ℕ) (said : List (List TurnMoment) → Machine → Type
 some_run count said keeps says is = (is.0, λ m kept. (is.2 m kept).1)
 
 -- However it ended.
-pub has_run : {I D S N L : Type 0} {i : index.Ghosts I} {d : store.Ghosts D} {s : stream.Ghosts S} {n : Ghosts N S} {l : notes.Ghosts L}
+pub has_run : {I D S N L : Type 0} {i : zone_index.Ghosts I} {d : store.Ghosts D} {s : stream.Ghosts S} {n : Ghosts N S} {l : notes.Ghosts L}
     {count : ℕ} {old new : Primary I D i d} {network network' : N} {first last : L} → RestLaw d → IsServedOn s n l count old network first new network' last → HasRun (λ m. IsKept old m) (IsLedTo old new)
 has_run {count = count} {old = old} {new = new} law is = some_run count (λ _ _. Unit {0}) (λ m. IsKept old m) (IsLedTo old new) (turned_from law (λ _ _. Unit {0}) is (λ m kept took. tt))
 
 -- No turn was made.
-pub none_run : {I D : Type 0} {i : index.Ghosts I} {d : store.Ghosts D} → RestLaw d → (p : Primary I D i d) → HasRun (λ m. IsKept p m) (IsLedTo p p)
+pub none_run : {I D : Type 0} {i : zone_index.Ghosts I} {d : store.Ghosts D} → RestLaw d → (p : Primary I D i d) → HasRun (λ m. IsKept p m) (IsLedTo p p)
 none_run law p = ([], λ m kept. ([], record { runs = tt; each = tt }, (kept, leads_nowhere law p m kept)))

@@ -1,7 +1,7 @@
 -- What passes the sockets of a server in its turns.
 use Rattle.std.specs.Prelude.{◌≡◌, ◌++◌, ◌∷◌, [], ℕ, List}
 use Rattle.std.specs.List.{AllZip, flat_map}
-use Rattle.dns_zone.specs.declared.index.ZoneIndex as index
+use Rattle.dns_zone.specs.declared.index.ZoneIndex as zone_index
 use Rattle.dns_store.specs.declared.zone_store.ZoneStore as store
 use Rattle.dns_primary.specs.declared.event.To.{To}
 use Rattle.dns_primary.specs.declared.event.To.TheVariants as to
@@ -30,7 +30,7 @@ datagrams_from (events.Datagram peer octets) = (octets, peer) ∷ []
 datagrams_from (events.Connect peer) = []
 datagrams_from (events.Arrives number message) = []
 datagrams_from events.Flush = []
-datagrams_from (events.Checkpoint place) = []
+datagrams_from (events.Checkpoint index) = []
 datagrams_from (events.Pump number) = []
 datagrams_from (events.Closed number) = []
 
@@ -66,7 +66,7 @@ IsCutFrom one came = (rest : List ℕ) × (came ≡ (one.0 ++ rest, one.1))
 -- Whatever turns are made over sockets that are each on the address with its own index: the replies to
 -- addresses that go out in them were given to the sockets, and the sockets handed over the datagrams that the
 -- machine is told of in them.
-abbrev pub TurnsCarry : {I D S C A L : Type 0} → index.Ghosts I → store.Ghosts D → stream.Ghosts S
+abbrev pub TurnsCarry : {I D S C A L : Type 0} → zone_index.Ghosts I → store.Ghosts D → stream.Ghosts S
     → network.Ghosts (Sockets C A) S → notes.Ghosts L → Ghosts C → Type 0
 TurnsCarry {I = I} {D = D} {S = S} {C = C} {A = A} {L = L} i d s n l c =
     (turns : List (List TurnMoment)) (old new : Served I D S (Sockets C A) L i d)

@@ -81,7 +81,7 @@ said_of quiet origins counts (note.Silent number) = ([], counts)
 said_of quiet origins counts (note.Stalled number) = ([], counts)
 said_of quiet origins counts note.Refused = ([], record counts { refused = counts.refused + 1 })
 said_of quiet origins counts note.OutOfMemory = (line (codes "out of memory"), counts)
-said_of quiet origins counts (note.Device place) = (device_line (slice_get origins place), counts)
+said_of quiet origins counts (note.Device index) = (device_line (slice_get origins index), counts)
 said_of quiet origins counts (note.Begins now) =
     if now == counts.second then ([], counts) else (summary counts, none_in now)
 said_of quiet origins counts note.Ends = ([], counts)
@@ -93,7 +93,7 @@ addresses_after (note.Opened number peer) addresses = slice_set addresses number
 addresses_after (note.Closed number) addresses = addresses
 addresses_after note.Refused addresses = addresses
 addresses_after note.OutOfMemory addresses = addresses
-addresses_after (note.Device place) addresses = addresses
+addresses_after (note.Device index) addresses = addresses
 addresses_after (note.Begins now) addresses = addresses
 addresses_after note.Ends addresses = addresses
 addresses_after (note.Silent number) addresses = addresses
@@ -106,7 +106,7 @@ transfers_noted (note.Opened number peer) transfers = transfers
 transfers_noted (note.Closed number) transfers = slice_set transfers number None
 transfers_noted note.Refused transfers = transfers
 transfers_noted note.OutOfMemory transfers = transfers
-transfers_noted (note.Device place) transfers = transfers
+transfers_noted (note.Device index) transfers = transfers
 transfers_noted (note.Begins now) transfers = transfers
 transfers_noted note.Ends transfers = transfers
 transfers_noted (note.Silent number) transfers = transfers

@@ -7,7 +7,7 @@ use Rattle.dns_names.specs.Name.{Labels}
 use Rattle.dns_sectors.specs.declared.device.Sectors.{Ghosts}
 use Rattle.dns_store.specs.declared.root.OpenError.{OpenError}
 use Rattle.dns_primary.specs.Machine.{Machine}
-use Rattle.dns_zone.specs.declared.index.ZoneIndex as index
+use Rattle.dns_zone.specs.declared.index.ZoneIndex as zone_index
 use Rattle.dns_store.specs.declared.kept_store.KeptStore.{KeptStore}
 use Rattle.dns_store.specs.declared.zone_store.ZoneStore as store
 use Rattle.dns_primary.specs.Keeps.{IsKept}
@@ -51,18 +51,18 @@ AreGiven calls zones devices = (length devices ≡ length zones) × (calls ≡ o
 
 -- The device of the zone there can't be had, for this.
 abbrev pub CannotBeHad : {D : Type 0} → List (DeviceCall D) → List ZoneSettings → ℕ → DeviceFault → Type 0
-CannotBeHad calls [] place fault = ⊥
+CannotBeHad calls [] index fault = ⊥
 CannotBeHad calls (z ∷ zones) zero fault = IsUnopened calls z fault
-CannotBeHad calls (z ∷ zones) (suc place) fault = CannotBeHad calls zones place fault
+CannotBeHad calls (z ∷ zones) (suc index) fault = CannotBeHad calls zones index fault
 
 -- Those of the first zones were opened; then that of the zone there could not be had, or memory was refused,
 -- and they were closed as they came.
-pub record IsNotGiven {D : Type 0} (calls : List (DeviceCall D)) (zones : List ZoneSettings) (place : ℕ)
+pub record IsNotGiven {D : Type 0} (calls : List (DeviceCall D)) (zones : List ZoneSettings) (index : ℕ)
     (fault : DeviceFault) : Type 0 where
   pub given : List D
   pub tried : List (DeviceCall D)
   pub came : calls ≡ openings given zones ++ (tried ++ closings given zones)
-  pub why : ((fault ≡ OutOfMemory) × (tried ≡ [])) ⊎ CannotBeHad tried zones place fault
+  pub why : ((fault ≡ OutOfMemory) × (tried ≡ [])) ⊎ CannotBeHad tried zones index fault
 
 -- What is said of devices that were opened, the settings of their zones, a machine that stopped within an
 -- event, with so many tries since, and the one that recovered from that stop.
@@ -93,14 +93,14 @@ pub record IsServed {D : Type 0} (g : Ghosts D) (calls : List (DeviceCall D)) (z
 -- The fault of the device there among those that were handed back, which it left so; where there is none,
 -- that of the refusal.
 abbrev pub IsFaultAt : {D : Type 0} → Ghosts D → OpenError → List D → List D → ℕ → DeviceFault → Type 0
-IsFaultAt {D} g error devices afters place fault =
-    MatchOption (slice_get devices place) (fault ≡ fault_of_open error)
-    (λ device. (after : D) × (slice_get afters place ≡ Some after) × IsFaultOf g error device after fault)
+IsFaultAt {D} g error devices afters index fault =
+    MatchOption (slice_get devices index) (fault ≡ fault_of_open error)
+    (λ device. (after : D) × (slice_get afters index ≡ Some after) × IsFaultOf g error device after fault)
 
 -- The devices were opened, the store of the zone there was refused, for this, and all were closed as opening
 -- the stores had left them.
 pub record IsZoneNotOpened {D : Type 0} (g : Ghosts D) (calls : List (DeviceCall D))
-    (zones : List ZoneSettings) (place : ℕ) (fault : DeviceFault) : Type 0 where
+    (zones : List ZoneSettings) (index : ℕ) (fault : DeviceFault) : Type 0 where
   pub devices : List D
   pub after : List D
   pub many : length devices ≡ length zones
@@ -109,17 +109,17 @@ pub record IsZoneNotOpened {D : Type 0} (g : Ghosts D) (calls : List (DeviceCall
   pub settings : AllZip IsSettingOf zones known
   pub back : List D
   pub error : OpenError
-  pub named : IsFaultAt g error back after place fault
-  pub refused : AreRefused g error place (origins_of zones) known devices back
+  pub named : IsFaultAt g error back after index fault
+  pub refused : AreRefused g error index (origins_of zones) known devices back
 
 abbrev pub IsNotServed : {D : Type 0} → Ghosts D → List (DeviceCall D) → List ZoneSettings → ℕ → DeviceFault
     → Type 0
-IsNotServed g calls zones place fault =
-    IsNotGiven calls zones place fault ⊎ IsZoneNotOpened g calls zones place fault
+IsNotServed g calls zones index fault =
+    IsNotGiven calls zones index fault ⊎ IsZoneNotOpened g calls zones index fault
 
 -- A primary keeps the machine that recovered, and a crash at any moment of opening the stores leaves each
 -- device as one that a zone of the stopped machine may be recovered as.
-abbrev pub IsOpenedAs : {D I : Type 0} {g : Ghosts D} {i : index.Ghosts I}
+abbrev pub IsOpenedAs : {D I : Type 0} {g : Ghosts D} {i : zone_index.Ghosts I}
     {s : store.Ghosts (KeptStore D I g)} → Primary I (KeptStore D I g) i s → OfRecovered D
 IsOpenedAs {g} p devices known m event tries new =
     IsKept p new × LeaveRecovered g (suc tries) m event 0 m.zones devices (devices_of p)

@@ -18,7 +18,7 @@ use Rattle.dns_devices.specs.DeviceCalls.{DeviceCall}
 use Rattle.dns_network.specs.Left.{OpensInRun}
 use Rattle.dns_network.specs.Turn.{TurnMoment}
 use Rattle.dns_names.specs.Name.{Labels}
-use Rattle.dns_zone.specs.declared.index.ZoneIndex as index
+use Rattle.dns_zone.specs.declared.index.ZoneIndex as zone_index
 use Rattle.dns_store.specs.Opens.{opens}
 use Rattle.dns_store.specs.declared.kept_store.KeptStore.{KeptStore}
 use Rattle.dns_store.specs.declared.zone_store.ZoneStore as store
@@ -40,18 +40,18 @@ use Rattle.dns_service.specs.Telling.{AreTold, Telling, Texts}
 
 -- The path of the device of the zone there.
 abbrev pub IsPathAt : List ZoneSettings → ℕ → List ℕ → Type 0
-IsPathAt [] place path = ⊥
+IsPathAt [] index path = ⊥
 IsPathAt (z ∷ zones) zero path = path ≡ string_bytes z.device
-IsPathAt (z ∷ zones) (suc place) path = IsPathAt zones place path
+IsPathAt (z ∷ zones) (suc index) path = IsPathAt zones index path
 
 -- The device of a zone is refused, and the text says so.
 pub record IsDeviceRefused {D : Type 0} (g : Ghosts D) (calls : List (DeviceCall D))
     (zones : List ZoneSettings) (explain : Bool) (text : List ℕ) : Type 0 where
-  pub place : ℕ
+  pub index : ℕ
   pub path : List ℕ
   pub fault : DeviceFault
-  pub at : IsPathAt zones place path
-  pub refused : IsNotServed g calls zones place fault
+  pub at : IsPathAt zones index path
+  pub refused : IsNotServed g calls zones index fault
   pub says : text ≡ device_text path fault explain
   pub status : status_of fault ≡ 1
 
@@ -62,7 +62,7 @@ AreLeft g zones devices known m =
     (event : Event) → AreRecoverable g 0 m event 0 m.zones (origins_of zones) known devices
 
 -- The devices of a primary were closed: those of each machine that it keeps, as this left its zones.
-abbrev pub ArePrimaryClosed : {D I : Type 0} {g : Ghosts D} {i : index.Ghosts I}
+abbrev pub ArePrimaryClosed : {D I : Type 0} {g : Ghosts D} {i : zone_index.Ghosts I}
     {s : store.Ghosts (KeptStore D I g)} → List (DeviceCall D) → List ZoneSettings
     → Primary I (KeptStore D I g) i s → Type 0
 ArePrimaryClosed {g} calls zones primary =
@@ -75,12 +75,12 @@ ArePrimaryClosed {g} calls zones primary =
 -- those from this position on.
 abbrev pub AreServedFrom : {D : Type 0} → Ghosts D → ℕ → Machine → Event → Machine → List Moment → ℕ
     → List ZoneState → List D → List D → Type 0
-AreServedFrom g tries m event start run place [] [] [] = Unit {0}
-AreServedFrom g tries m event start run place (z ∷ zones) (d ∷ devices) (e ∷ back) =
-    LeavesOnly g.moment g.left_since d e (λ c. OpensAsRecovered opens tries (IsMaking m event place z) z c
-    ⊎ OpensInRun opens start run place c)
-    × AreServedFrom g tries m event start run (suc place) zones devices back
-AreServedFrom g tries m event start run place _ _ _ = ⊥
+AreServedFrom g tries m event start run index [] [] [] = Unit {0}
+AreServedFrom g tries m event start run index (z ∷ zones) (d ∷ devices) (e ∷ back) =
+    LeavesOnly g.moment g.left_since d e (λ c. OpensAsRecovered opens tries (IsMaking m event index z) z c
+    ⊎ OpensInRun opens start run index c)
+    × AreServedFrom g tries m event start run (suc index) zones devices back
+AreServedFrom g tries m event start run index _ _ _ = ⊥
 
 -- Turns were made of a machine that recovered: their events are those of a run from it; each device was
 -- closed as the machine at the run's end left its zone; and what a crash leaves at any moment between is as
@@ -131,7 +131,7 @@ abbrev pub IsServingTried : {D : Type 0} → Ghosts D → List (DeviceCall D) �
 IsServingTried g calls config =
     (calls ≡ [])
     ⊎ ((c : Configuration) × HoldsConfiguration (option_copied config.octets) (Ok c)
-    × (((place : ℕ) × (fault : DeviceFault) × IsNotServed g calls c.zones.items place fault)
+    × (((index : ℕ) × (fault : DeviceFault) × IsNotServed g calls c.zones.items index fault)
     ⊎ IsServedSomehow g calls c.zones.items))
 
 -- How a server ends: all its turns were made, over the devices of the zones of its configuration, and its log
@@ -156,8 +156,8 @@ pub record ServingEnds {D : Type 0} (g : Ghosts D) (calls : List (DeviceCall D))
 -- zone.
 abbrev pub IsRefusalTold : List ZoneSettings → ℕ → DeviceFault → Bool → Option (List ℕ)
     → Option (List ℕ) → ℕ → Type 0
-IsRefusalTold zones place fault explain err err_after status =
+IsRefusalTold zones index fault explain err err_after status =
     (status ≡ 3)
     ⊎ ((status ≡ 1) × (status_of fault ≡ 1)
-    × ((path : List ℕ) × IsPathAt zones place path
+    × ((path : List ℕ) × IsPathAt zones index path
     × Appends err err_after (line (device_text path fault explain))))

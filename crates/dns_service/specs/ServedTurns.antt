@@ -2,7 +2,7 @@
 use Rattle.std.specs.Prelude.{◌≡◌, ◌⊎◌, ℕ, true, List, length, Option, None, replicate}
 use Rattle.dns_network.specs.declared.connection.Connection.{Connection}
 use Rattle.dns_network.specs.declared.stream.Stream as stream
-use Rattle.dns_zone.specs.declared.index.ZoneIndex as index
+use Rattle.dns_zone.specs.declared.index.ZoneIndex as zone_index
 use Rattle.dns_store.specs.declared.zone_store.ZoneStore as store
 use Rattle.dns_primary.specs.declared.primary.Primary.{Primary}
 use Rattle.dns_primary.specs.Keeps.{IsKept}
@@ -29,7 +29,7 @@ pub record BeginsCounting (every : ℕ) (c : Counting) : Type 0 where
   pub none : c.counters ≡ no_counts
   pub on : (every ≡ 0 → ⊥) → c.is_on ≡ true
 
-module _ {I D S N L : Type 0} {i : index.Ghosts I} {d : store.Ghosts D} where
+module _ {I D S N L : Type 0} {i : zone_index.Ghosts I} {d : store.Ghosts D} where
   -- A primary before the first connection.
   abbrev pub served_at_start : Primary I D i d → N → L → Served I D S N L i d
   served_at_start primary network notes =
@@ -77,6 +77,6 @@ HasRun keeps says = (turns : List (List TurnMoment)) × ((m : Machine) → keeps
 
 -- The run led from one primary to the other: to the machine that this keeps, and a crash at any moment of it
 -- leaves each zone's store as it allows.
-abbrev pub IsLedTo : {I S : Type 0} {i : index.Ghosts I} {s : store.Ghosts S} → Primary I S i s
+abbrev pub IsLedTo : {I S : Type 0} {i : zone_index.Ghosts I} {s : store.Ghosts S} → Primary I S i s
     → Primary I S i s → OfRun
 IsLedTo old new m run = IsKept new (last_of m run) × LeadsThrough old new m run

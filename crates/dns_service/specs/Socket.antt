@@ -8,7 +8,7 @@ abbrev pub stream_of : {T : Type 0} → Socket T → T
 stream_of socket = socket.stream
 
 abbrev pub place_of : {T : Type 0} → Socket T → Place
-place_of socket = socket.place
+place_of socket = socket.slot
 
 -- No octet moved on it.
 pub record HasNotMoved {T : Type 0} (s : Ghosts T) (old new : Socket T) : Type 0 where

@@ -64,7 +64,7 @@ abbrev pub after_message : List Labels → List (Option Transfer) → ℕ → Li
 after_message origins transfers number octets None Nothing =
     opened transfers number (transfer_asked origins octets)
 after_message origins transfers number octets None OutOfMemory = transfers
-after_message origins transfers number octets None (Device place) = transfers
+after_message origins transfers number octets None (Device index) = transfers
 after_message origins transfers number octets (Some reply) noted = transfers
 
 -- The transfer that is open on a connection, if there is one.
@@ -82,7 +82,7 @@ after_pump transfers number (Some t) (Some reply) noted =
     slice_set transfers number (Some (with_message t (octets_in reply.octets)))
 after_pump transfers number (Some t) None Nothing = slice_set transfers number None
 after_pump transfers number (Some t) None OutOfMemory = transfers
-after_pump transfers number (Some t) None (Device place) = transfers
+after_pump transfers number (Some t) None (Device index) = transfers
 after_pump transfers number None reply noted = transfers
 
 abbrev pub transfers_after : List Labels → List (Option Transfer) → Event → Effects → List (Option Transfer)
@@ -93,7 +93,7 @@ transfers_after origins transfers (Pump number) effects =
 transfers_after origins transfers (Datagram peer octets) effects = transfers
 transfers_after origins transfers (Connect peer) effects = transfers
 transfers_after origins transfers Flush effects = transfers
-transfers_after origins transfers (Checkpoint place) effects = transfers
+transfers_after origins transfers (Checkpoint index) effects = transfers
 transfers_after origins transfers (Closed number) effects = transfers
 
 -- The line of a transfer that is over: who had it, of which zone, the serial of the version that was sent,
@@ -113,7 +113,7 @@ over_line origins address None = []
 abbrev pub pump_said : List Labels → Option IpAddr → Option Transfer → Option Reply → Noted → List ℕ
 pump_said origins address transfer None Nothing = over_line origins address transfer
 pump_said origins address transfer None OutOfMemory = []
-pump_said origins address transfer None (Device place) = []
+pump_said origins address transfer None (Device index) = []
 pump_said origins address transfer (Some reply) noted = []
 
 -- It has a record in its authority section, NSCOUNT (RFC 1035 4.1.1), as an IXFR has the SOA of the client's
@@ -153,5 +153,5 @@ transfer_said origins addresses transfers (Datagram peer octets) effects =
 transfer_said origins addresses transfers (Connect peer) effects = []
 transfer_said origins addresses transfers (Arrives number octets) effects = []
 transfer_said origins addresses transfers Flush effects = []
-transfer_said origins addresses transfers (Checkpoint place) effects = []
+transfer_said origins addresses transfers (Checkpoint index) effects = []
 transfer_said origins addresses transfers (Closed number) effects = []

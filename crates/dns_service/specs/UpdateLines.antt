@@ -136,7 +136,7 @@ refusal_said addresses counts (Arrives number octets) code =
     arrived_said (address_on addresses number) counts octets code
 refusal_said addresses counts (Connect peer) code = ([], counts)
 refusal_said addresses counts Flush code = ([], counts)
-refusal_said addresses counts (Checkpoint place) code = ([], counts)
+refusal_said addresses counts (Checkpoint index) code = ([], counts)
 refusal_said addresses counts (Pump number) code = ([], counts)
 refusal_said addresses counts (Closed number) code = ([], counts)
 

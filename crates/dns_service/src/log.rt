@@ -153,8 +153,8 @@ fn add(
             None => return Err(ErrorKind::Other.into()),
         },
         Note::OutOfMemory => writeln!(lines, "out of memory")?,
-        Note::Device(place) => {
-            if let Some(origin) = origins.get(place) {
+        Note::Device(index) => {
+            if let Some(origin) = origins.get(index) {
                 writeln!(lines, "device {origin}")?;
             }
         }

@@ -13,13 +13,13 @@ use dns_names::Name;
 use dns_primary::{NotOpened, Primary};
 use dns_sectors::Sectors;
 use dns_store::{KeptStore, OpenError};
-use dns_versions::PendingZone;
+use dns_versions::ZoneVersions;
 use dns_zone::ZoneIndex;
 
 /// The device of a zone that is refused: the position of the zone, and why.
 #[derive(Clone, Copy)]
 pub(crate) struct Refusal {
-    pub(crate) place: usize,
+    pub(crate) index: usize,
     pub(crate) fault: DeviceFault,
 }
 
@@ -40,10 +40,10 @@ pub(crate) fn close_all<D: Drop, F: Devices<D>>(
 }
 
 /// The device of a store.
-fn device_of<D: Sectors + Drop, I: ZoneIndex>(pending: PendingZone<I, KeptStore<D, I>>) -> D
+fn device_of<D: Sectors + Drop, I: ZoneIndex>(pending: ZoneVersions<I, KeptStore<D, I>>) -> D
     ensures { result ≡ device_of_pending pending }
 {
-    let PendingZone {
+    let ZoneVersions {
         tip: _,
         store,
         number: _,
@@ -58,7 +58,7 @@ fn device_of<D: Sectors + Drop, I: ZoneIndex>(pending: PendingZone<I, KeptStore<
 pub(crate) fn close_stores<D: Sectors + Drop, F: Devices<D>, I: ZoneIndex>(
     devices: &mut F,
     zones: &[ZoneSettings],
-    stores: Vec<PendingZone<I, KeptStore<D, I>>, Heap>,
+    stores: Vec<ZoneVersions<I, KeptStore<D, I>>, Heap>,
 )
     ensures { HasCalled (F.calls devices.old) (F.calls devices.new)
         (closings (map (λ b. device_of_pending b) stores.entry.items) zones.now) }
@@ -97,24 +97,24 @@ fn open_devices<D: Drop, F: Devices<D>>(
 ) -> Result<Vec<D, Heap>, Refusal>
     ensures { Calls (F.calls devices.old) (F.calls devices.new) (λ calls. MatchResult result
         (λ given. AreGiven calls zones.now given.items)
-        (λ r. IsNotGiven calls zones.now r.place r.fault)) }
+        (λ r. IsNotGiven calls zones.now r.index r.fault)) }
 {
     let mut given = Vec::new(heap);
-    for place in 0..zones.len() {
-        if let Err(fault) = open_next(devices, &zones[place], &mut given) {
+    for index in 0..zones.len() {
+        if let Err(fault) = open_next(devices, &zones[index], &mut given) {
             close_all(devices, zones, given);
-            return Err(Refusal { place, fault });
+            return Err(Refusal { index, fault });
         }
     }
     Ok(given)
 }
 
 /// The fault of the device there, which was handed back when its store was refused for this.
-fn fault_at<D: Sectors>(devices: &mut [D], place: usize, error: OpenError) -> DeviceFault
-    ensures { IsFaultAt D.Sectors error devices.old devices.new place result }
+fn fault_at<D: Sectors>(devices: &mut [D], index: usize, error: OpenError) -> DeviceFault
+    ensures { IsFaultAt D.Sectors error devices.old devices.new index result }
 {
-    if place < devices.len() {
-        refusal(&mut devices[place], error)
+    if index < devices.len() {
+        refusal(&mut devices[index], error)
     } else {
         DeviceFault::from(error)
     }
@@ -130,11 +130,11 @@ pub(crate) fn open_primary<D: Sectors + Drop, F: Devices<D>, I: ZoneIndex>(
     requires { origins.now ≡ origins_of zones.now }
     ensures { Calls (F.calls devices.old) (F.calls devices.new) (λ calls. MatchResult result
         (λ p. IsServed D.Sectors calls zones.now (IsOpenedAs p))
-        (λ r. IsNotServed D.Sectors calls zones.now r.place r.fault)) }
+        (λ r. IsNotServed D.Sectors calls zones.now r.index r.fault)) }
 {
     let Ok(settings) = settings_of(heap, zones) else {
         return Err(Refusal {
-            place: 0,
+            index: 0,
             fault: DeviceFault::OutOfMemory,
         });
     };
@@ -146,13 +146,13 @@ pub(crate) fn open_primary<D: Sectors + Drop, F: Devices<D>, I: ZoneIndex>(
         Ok(primary) => Ok(primary),
         Err(refused) => {
             let NotOpened {
-                place,
+                index,
                 error,
                 devices: mut given,
             } = refused;
-            let fault = fault_at(&mut given, place, error);
+            let fault = fault_at(&mut given, index, error);
             close_all(devices, zones, given);
-            Err(Refusal { place, fault })
+            Err(Refusal { index, fault })
         }
     }
 }

@@ -64,9 +64,9 @@ fn tell_zones<I: ZoneIndex, S: ZoneStore, E: Write>(
     ensures { OnOk result ((m : Machine) → IsKept primary.now m
         → Appends (E.contents err.old) (E.contents err.new) (zone_lines origins.now m.zones)) }
 {
-    for place in 0..origins.len() {
-        if let Some((version, zone)) = primary.shown(place) {
-            tell_zone(err, &origins[place], version, zone)?;
+    for index in 0..origins.len() {
+        if let Some((version, zone)) = primary.shown(index) {
+            tell_zone(err, &origins[index], version, zone)?;
         }
     }
     Ok(())
@@ -408,10 +408,10 @@ fn tell_refusal<E: Write>(
     explain: bool,
 ) -> io::Result<u8>
     ensures { IfOk result
-        (λ status. IsRefusalTold zones.now refusal.place refusal.fault explain (E.contents err.old)
+        (λ status. IsRefusalTold zones.now refusal.index refusal.fault explain (E.contents err.old)
         (E.contents err.new) status) }
 {
-    match zones.get(refusal.place) {
+    match zones.get(refusal.index) {
         Some(own) => tell_device(err, &own.device, refusal.fault, explain),
         None => Ok(FAILED),
     }

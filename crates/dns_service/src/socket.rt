@@ -16,15 +16,15 @@ use std::io::{self, ErrorKind};
 #[derive(Drop)]
 pub(crate) struct Socket<T> {
     stream: T,
-    place: Place,
+    slot: Place,
 }
 
 impl<T: StreamCalls> Socket<T> {
     /// That of a stream that isn't watched yet.
-    pub(crate) fn new(stream: T, place: Place) -> Socket<T>
+    pub(crate) fn new(stream: T, slot: Place) -> Socket<T>
         ensures { stream_of result ≡ stream }
     {
-        Socket { stream, place }
+        Socket { stream, slot }
     }
 
     /// Lets the events of the stream be reported by a token, and gives it this number. That can be refused.
@@ -33,7 +33,7 @@ impl<T: StreamCalls> Socket<T> {
         ensures by { IsTrue result → number_of (place_of self.new) ≡ Some number }
     {
         match self.stream.watch(registry, token) {
-            Ok(()) => self.place.put(number),
+            Ok(()) => self.slot.put(number),
             Err(_) => false,
         }
     }
@@ -69,21 +69,21 @@ impl<T: StreamCalls> Stream for Socket<T> {
 
     /// Where the last read would have waited, and no event came since, the system isn't asked.
     fn read(&mut self, into: &mut [u8]) -> Moved {
-        if !self.place.may_read() {
+        if !self.slot.may_read() {
             return Moved::Later;
         }
         let answer = self.stream.read(into);
-        self.place.note_read(&answer);
+        self.slot.note_read(&answer);
         what_moved(&answer)
     }
 
     /// Where the last write would have waited, and no event came since, the system isn't asked.
     fn write(&mut self, octets: &[u8]) -> Moved {
-        if !self.place.may_write() {
+        if !self.slot.may_write() {
             return Moved::Later;
         }
         let answer = self.stream.write(octets);
-        self.place.note_write(&answer);
+        self.slot.note_write(&answer);
         what_moved(&answer)
     }
 }
@@ -105,11 +105,11 @@ mod tests {
         number: usize,
         octets: &[u8],
     ) -> Result<Socket<MemoryPeer>, AllocError> {
-        let mut place = Place::new(readiness.clone()?);
-        let _is_put = place.put(number);
+        let mut slot = Place::new(readiness.clone()?);
+        let _is_put = slot.put(number);
         let mut stream = MemoryPeer::new(heap);
         stream.give(octets)?;
-        Ok(Socket::new(stream, place))
+        Ok(Socket::new(stream, slot))
     }
 
     #[test]

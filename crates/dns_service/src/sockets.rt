@@ -131,9 +131,9 @@ impl<C: DatagramCalls + Drop, L: ListenerCalls<T> + Drop, T: StreamCalls + Drop>
     ghost keeps_still = { λ _. Unit {0} };
 
     fn accept(&mut self) -> Option<(Socket<T>, Peer)> {
-        let place = Place::new(self.readiness.clone().ok()?);
+        let slot = Place::new(self.readiness.clone().ok()?);
         let (stream, peer) = self.listeners.accept()?;
-        Some((Socket::new(stream, place), peer))
+        Some((Socket::new(stream, slot), peer))
     }
 
     fn watch(&mut self, number: usize, socket: Socket<T>) -> Option<Socket<T>> {

@@ -4,7 +4,7 @@ ghost use Rattle.std.specs.Prelude.{◌≡◌, ◌≤◌, ◌+◌, ◌*◌, ◌^
 ghost use Rattle.std.specs.Prelude.{drop};
 
 use crate::{CheckpointError, ZoneStore};
-use dns_changes::Change;
+use dns_changes::{Change, PreparedEntry};
 use dns_journal::{Cursor, FlushError, Journal, StageError};
 use dns_layout::{Root, entry_sectors};
 use dns_memory::Heap;
@@ -127,7 +127,7 @@ impl<D: Sectors + Drop, I: ZoneIndex> ZoneStore for KeptStore<D, I> {
         &self.changes
     }
 
-    fn stage(&mut self, change: Change) -> Result<(), StageError> {
+    fn stage(&mut self, change: PreparedEntry) -> Result<(), StageError> {
         if self.journal.is_closed() {
             drop(change);
             return Err(StageError::Closed);
@@ -136,15 +136,15 @@ impl<D: Sectors + Drop, I: ZoneIndex> ZoneStore for KeptStore<D, I> {
             drop(change);
             return Err(StageError::Full);
         }
-        let sectors = entry_sectors(change.encoded_len());
+        let sectors = entry_sectors(change.octets().len());
         if sectors > self.journal.left() {
             drop(change);
             return Err(StageError::Full);
         }
         self.changes.reserve(1).map_err(AllocError::from)?;
-        match self.journal.stage(self.alloc, &change) {
+        match self.journal.stage(&change) {
             Ok(()) => {
-                self.changes.push_reserved(change);
+                self.changes.push_reserved(change.into_change());
                 Ok(())
             }
             Err(error) => {

@@ -34,11 +34,11 @@ struct Script {
 }
 
 /// Puts a value where none is. Answers whether there was one to put, and room for it.
-fn set_once<T: Drop>(place: &mut Option<T>, value: Option<T>) -> bool {
-    if place.is_some() || value.is_none() {
+fn set_once<T: Drop>(slot: &mut Option<T>, value: Option<T>) -> bool {
+    if slot.is_some() || value.is_none() {
         return false;
     }
-    *place = value;
+    *slot = value;
     true
 }
 

@@ -119,24 +119,30 @@ fn printed_by(
     Ok(run(rt, heap, given, &script)?.printed)
 }
 
+/// A script, and the path that its errors name.
+#[derive(Clone, Copy)]
+struct Script<'a> {
+    path: &'a str,
+    text: &'a str,
+}
+
 /// What is printed where memory is refused in the event of the line with that index, and this line is left.
 fn event_without(
     rt: &HostRuntime,
     heap: Heap,
     given: Given<'_>,
-    path: &str,
-    script: &str,
+    script: Script<'_>,
     at: usize,
     left: &str,
 ) -> io::Result<Without> {
-    let line = Line::new(script.lines().nth(at).unwrap_or(""));
-    let front = with_line(rt.alloc(), script, at, left, false)?;
-    let whole = with_line(rt.alloc(), script, at, left, true)?;
+    let line = Line::new(script.text.lines().nth(at).unwrap_or(""));
+    let front = with_line(rt.alloc(), script.text, at, left, false)?;
+    let whole = with_line(rt.alloc(), script.text, at, left, true)?;
     Ok(Without {
         line: at,
-        front: printed_by(rt, heap, given, path, &front)?,
+        front: printed_by(rt, heap, given, script.path, &front)?,
         answer: line.answer(rt.alloc())?,
-        whole: printed_by(rt, heap, given, path, &whole)?,
+        whole: printed_by(rt, heap, given, script.path, &whole)?,
     })
 }
 
@@ -159,9 +165,10 @@ impl Expected {
             plain: printed_by(rt, heap, given, path, script)?,
             without: Vec::new(rt.alloc()),
         };
+        let of = Script { path, text: script };
         for (at, line) in script.lines().enumerate() {
             for left in Line::new(line).left() {
-                let one = event_without(rt, heap, given, path, script, at, left)?;
+                let one = event_without(rt, heap, given, of, at, left)?;
                 expected.without.push(one)?;
             }
         }

@@ -1,7 +1,7 @@
 //! Runs of a script over the master files of a configuration.
 use crate::refusing::refuse_each;
 use crate::{Ended, Words, started};
-use dns_commands::{Folder, explain_replay, file, master_files, octets_in, replay};
+use dns_commands::{Folder, Run, explain_replay, file, master_files, octets_in, replay};
 use dns_configuration::{DONE, File};
 use dns_memory::Heap;
 use std::io;
@@ -31,17 +31,20 @@ pub(crate) fn run(
     given: Given<'_>,
     script: &File<'_>,
 ) -> io::Result<Ended> {
-    let mut ended = started(rt, DONE);
-    ended.status = replay(
-        rt.alloc(),
+    let mut over = Run {
+        alloc: rt.alloc(),
         heap,
-        given.config,
-        given.files,
-        script,
-        &mut ended.printed,
-        &mut ended.told,
-    );
-    Ok(ended)
+        devices: (),
+        explain: false,
+        out: Vec::new(rt.alloc()),
+        err: Vec::new(rt.alloc()),
+    };
+    let status = replay(&mut over, given.config, given.files, script);
+    Ok(Ended {
+        printed: over.out,
+        told: over.err,
+        status,
+    })
 }
 
 /// Explains why a script is refused.

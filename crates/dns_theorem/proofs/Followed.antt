@@ -55,7 +55,7 @@ carried m (Arrives number octets) z u o b =
     updates_sent b.octets u octal (update_reads (shown_zones m) b.octets b.transport u b.question octal b.asks)
 carried m (Connect peer) z u o b = absurd b.came
 carried m Flush z u o b = absurd b.came
-carried m (Checkpoint place) z u o b = absurd b.came
+carried m (Checkpoint index) z u o b = absurd b.came
 carried m (Pump number) z u o b = absurd b.came
 carried m (Closed number) z u o b = absurd b.came
 

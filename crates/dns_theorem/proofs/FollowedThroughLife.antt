@@ -49,8 +49,8 @@ use Rattle.dns_theorem.proofs.Shown.{IsFewSoas, apex_is, held_few, held_is_follo
 -- ---- the versions of a life are sound
 brought_by : (m : Machine) (act : Act) (z : ZoneState) (u : Message) → IsSoundAct act → BringsBy m act z u → AllByRecursion IsSent u.authorities
 brought_by m (Ran moment) z u o b = brought m moment z u o b
-brought_by m (Loaded place file new) z u o b = absurd b
-brought_by m (Reopened place new) z u o b = absurd b
+brought_by m (Loaded index file new) z u o b = absurd b
+brought_by m (Reopened index new) z u o b = absurd b
 
 came_sent : (m : Machine) (life : List Act) (z : ZoneState) (u : Message) → AllByRecursion IsSoundAct life → CameAlong m life z u → AllByRecursion IsSent u.authorities
 came_sent m [] z u o c = absurd c
@@ -59,8 +59,8 @@ came_sent m (act ∷ rest) z u o (inr c) = came_sent (machine_of act) rest z u o
 
 loads_valid : (m : Machine) (act : Act) (z : ZoneState) (rs : List Record) → IsSoundAct act → LoadsBy m act z rs → AllByRecursion IsRecord rs
 loads_valid m (Ran moment) z rs o b = absurd b
-loads_valid m (Loaded place file new) z rs o b = subst (AllByRecursion IsRecord) (sym b.0) o
-loads_valid m (Reopened place new) z rs o b = absurd b
+loads_valid m (Loaded index file new) z rs o b = subst (AllByRecursion IsRecord) (sym b.0) o
+loads_valid m (Reopened index new) z rs o b = absurd b
 
 loaded_valid : (m : Machine) (life : List Act) (z : ZoneState) (rs : List Record) → AllByRecursion IsSoundAct life → LoadedAlong m life z rs → AllByRecursion IsRecord rs
 loaded_valid m [] z rs o c = absurd c

@@ -32,7 +32,7 @@ is_pump number (Datagram peer octets) effects = inr (λ e. absurd cc, refl)
 is_pump number (Arrives other octets) effects = inr (λ e. absurd cc, refl)
 is_pump number (Connect peer) effects = inr (λ e. absurd cc, refl)
 is_pump number Flush effects = inr (λ e. absurd cc, refl)
-is_pump number (Checkpoint place) effects = inr (λ e. absurd cc, refl)
+is_pump number (Checkpoint index) effects = inr (λ e. absurd cc, refl)
 is_pump number (Closed other) effects = inr (λ e. absurd cc, refl)
 
 pumped_is : (number : ℕ) (event : Event) (effects : Effects) (sent : List Sent) → event ≡ Pump number → effects.sent ≡ sent → pumped number event effects ≡ flat_map octets_sent sent

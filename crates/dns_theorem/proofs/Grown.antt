@@ -129,25 +129,25 @@ begun_held fails old (Some lacked) first mid s g =
     (record { zones = pair_on IsStill still_on old.zones here.zones after.zones one.zones two; placed = tt; good = all_true_over here.zones after.zones last (flush_sends flushing old) one.good })
 
 -- ---- an update: what is admitted is named and allowed
-record IsAllowed (zones : List ZoneState) (a : Asked) (place : ℕ) (z : ZoneState) : Type 0 where
-  stands : slice_get zones place ≡ Some z
+record IsAllowed (zones : List ZoneState) (a : Asked) (index : ℕ) (z : ZoneState) : Type 0 where
+  stands : slice_get zones index ≡ Some z
   named : names_eq z.setting.shape.apex a.zone.name ≡ true
   allowed : z.setting.may_update a.address ≡ true
 
 abbrev AllowedIn : List ZoneState → Asked → Admission → Type 0
 AllowedIn zones a (Rejects rcode) = Unit {0}
-AllowedIn zones a (Admits place z) = IsAllowed zones a place z
+AllowedIn zones a (Admits index z) = IsAllowed zones a index z
 
-in_allowed : (zones : List ZoneState) (a : Asked) (place : ℕ) (found : Option ZoneState) → slice_get zones place ≡ found → IsNamed a.zone.name found → AllowedIn zones a (admission_in a.address place found)
-in_allowed zones a place None e n = tt
-in_allowed zones a place (Some z) e n =
-    tested (AllowedIn zones a) (not (z.setting.may_update a.address)) (Rejects rcode_refused) (if z.closed then Rejects rcode_servfail else Admits place z)
+in_allowed : (zones : List ZoneState) (a : Asked) (index : ℕ) (found : Option ZoneState) → slice_get zones index ≡ found → IsNamed a.zone.name found → AllowedIn zones a (admission_in a.address index found)
+in_allowed zones a index None e n = tt
+in_allowed zones a index (Some z) e n =
+    tested (AllowedIn zones a) (not (z.setting.may_update a.address)) (Rejects rcode_refused) (if z.closed then Rejects rcode_servfail else Admits index z)
     (λ _. tt)
-    (λ may. tested (AllowedIn zones a) z.closed (Rejects rcode_servfail) (Admits place z) (λ _. tt) (λ _. record { stands = e; named = n; allowed = has (z.setting.may_update a.address) may }))
+    (λ may. tested (AllowedIn zones a) z.closed (Rejects rcode_servfail) (Admits index z) (λ _. tt) (λ _. record { stands = e; named = n; allowed = has (z.setting.may_update a.address) may }))
 
 at_allowed : (zones : List ZoneState) (a : Asked) (o : Option ℕ) → NamedAt a.zone.name zones o → AllowedIn zones a (admission_at zones a.address o)
 at_allowed zones a None n = tt
-at_allowed zones a (Some place) n = in_allowed zones a place (slice_get zones place) refl n
+at_allowed zones a (Some index) n = in_allowed zones a index (slice_get zones index) refl n
 
 admission_allowed : (zones : List ZoneState) (a : Asked) → AllowedIn zones a (admission zones a)
 admission_allowed zones a =
@@ -177,10 +177,10 @@ accepted_on z made j room =
       numbered = subst (λ (n : ℕ). n < 2 ^ 64 - 1) (number_is z) (true_lt (length k.shown + length k.staged) (2 ^ 64 - 1) last.1);
     }
 
-set_stands : (zones : List ZoneState) (place : ℕ) (z w : ZoneState) → slice_get zones place ≡ Some z → slice_get (slice_set zones place w) place ≡ Some w
-set_stands [] place z w e = absurd cc
+set_stands : (zones : List ZoneState) (index : ℕ) (z w : ZoneState) → slice_get zones index ≡ Some z → slice_get (slice_set zones index w) index ≡ Some w
+set_stands [] index z w e = absurd cc
 set_stands (a ∷ zones) zero z w e = refl
-set_stands (a ∷ zones) (suc place) z w e = set_stands zones place z w e
+set_stands (a ∷ zones) (suc index) z w e = set_stands zones index z w e
 
 -- One version more, of which C holds.
 abbrev pub HasOneMore : (Shape → ℕ → List Record → Made → Type 0) → ZoneState → ZoneState → Type 0
@@ -238,29 +238,29 @@ module _ (C : Shape → ℕ → List Record → Made → Type 0) where
   with_reply old new sent target octets p = record { zones = p.zones; placed = p.placed; good = all_with (IsTrueIn new.zones) sent (Replied target octets ∷ []) p.good (tt, tt) }
 
   -- a reply that waits
-  wait_held : (m : Machine) (a : Asked) (place rcode : ℕ) (z : ZoneState) → Placed m → slice_get m.zones place ≡ Some z
-      → IsHeld (IsMoved C) m (waits m a place rcode (newest_serial z) (updates_of z)) []
-  wait_held m a place rcode z s e = record {
+  wait_held : (m : Machine) (a : Asked) (index rcode : ℕ) (z : ZoneState) → Placed m → slice_get m.zones index ≡ Some z
+      → IsHeld (IsMoved C) m (waits m a index rcode (newest_serial z) (updates_of z)) []
+  wait_held m a index rcode z s e = record {
     zones = pair_same (IsMoved C) moved_itself m.zones;
     placed = all_more (IsPlaced m.zones) m.waiting _ s (record { zone = z; stands = e; more = []; updates = sym (append-nil (updates_of z)) });
     good = tt;
   }
 
   -- an update that is staged
-  stage_held : (m : Machine) (a : Asked) (place : ℕ) (z : ZoneState) (records : List Record) → Placed m → slice_get m.zones place ≡ Some z
+  stage_held : (m : Machine) (a : Asked) (index : ℕ) (z : ZoneState) (records : List Record) → Placed m → slice_get m.zones index ≡ Some z
       → C z.setting.shape (length (updates_of z)) (newest_after z.loaded (versions_of (updates_of z))) (record { update = a.message; records = records })
-      → IsHeld (IsMoved C) m (stages m a place z records) []
-  stage_held m a place z records s e holds =
+      → IsHeld (IsMoved C) m (stages m a index z records) []
+  stage_held m a index z records s e holds =
       let made : Made = record { update = a.message; records = records } in
       let after : ZoneState = with_staged made z in
       let longer : updates_of after ≡ updates_of z ++ made ∷ [] = sym (append_assoc z.shown z.staged (made ∷ [])) in
-      let grown : Each2 Grows m.zones (slice_set m.zones place after) = pair_set Grows grows_itself m.zones place z after e (record { more = made ∷ []; updates = longer }) in
+      let grown : Each2 Grows m.zones (slice_set m.zones index after) = pair_set Grows grows_itself m.zones index z after e (record { more = made ∷ []; updates = longer }) in
       let last : Lasts z after = record { shape = refl; loaded = refl; more = []; shown = sym (append-nil z.shown) } in
       let moved : IsMoved C z after = record { lasts = last; updates = inr (inl (made, longer, holds)) } in
       record {
-        zones = pair_set (IsMoved C) moved_itself m.zones place z after e moved;
-        placed = all_more (IsPlaced (slice_set m.zones place after)) m.waiting _ (waiting_over m.zones (slice_set m.zones place after) grown m.waiting s)
-            (record { zone = after; stands = set_stands m.zones place z after e; more = []; updates = sym (append-nil (updates_of after)) });
+        zones = pair_set (IsMoved C) moved_itself m.zones index z after e moved;
+        placed = all_more (IsPlaced (slice_set m.zones index after)) m.waiting _ (waiting_over m.zones (slice_set m.zones index after) grown m.waiting s)
+            (record { zone = after; stands = set_stands m.zones index z after e; more = []; updates = sym (append-nil (updates_of after)) });
         good = tt;
       }
 
@@ -299,7 +299,7 @@ module _ (C : Shape → ℕ → List Record → Made → Type 0) where
   failures_true zones m (Arrives number octets) = failure_on_true zones number (peer_at number m.connections) octets
   failures_true zones m (Connect peer) = tt
   failures_true zones m Flush = tt
-  failures_true zones m (Checkpoint place) = tt
+  failures_true zones m (Checkpoint index) = tt
   failures_true zones m (Pump number) = tt
   failures_true zones m (Closed number) = tt
 
@@ -322,9 +322,9 @@ module _ (C : Shape → ℕ → List Record → Made → Type 0) where
       asks : handled (shown_zones old) octets transport ≡ Update a.message a.zone
       from : a.address ≡ peer.address
 
-    brings : (a : Asked) → IsBrought a → (m : Machine) → Each2 IsStill old.zones m.zones → (place : ℕ) (z : ZoneState) → IsAllowed m.zones a place z → Brings old event z a.message
-    brings a b m still place z h =
-        let before = pair_found_before IsStill old.zones m.zones place z still h.stands in
+    brings : (a : Asked) → IsBrought a → (m : Machine) → Each2 IsStill old.zones m.zones → (index : ℕ) (z : ZoneState) → IsAllowed m.zones a index z → Brings old event z a.message
+    brings a b m still index z h =
+        let before = pair_found_before IsStill old.zones m.zones index z still h.stands in
         let same : z.setting ≡ (before.zone).setting = before.holds.same.setting in
         record {
           peer = b.peer;
@@ -333,7 +333,7 @@ module _ (C : Shape → ℕ → List Record → Made → Type 0) where
           came = b.came;
           question = a.zone;
           asks = b.asks;
-          place = place;
+          index = index;
           zone = before.zone;
           there = before.there;
           shape = ap (λ (s : Setting). s.shape) (sym same);
@@ -345,23 +345,23 @@ module _ (C : Shape → ℕ → List Record → Made → Type 0) where
     Held m p = IsHeld (IsMoved C) m p.0 p.1
 
     module _ (a : Asked) (b : IsBrought a) (m : Machine) (still : Each2 IsStill old.zones m.zones) (s : Placed m) where
-      accepted_held : (place : ℕ) (z : ZoneState) (records : List Record) → IsAllowed m.zones a place z
-          → verdict (newest_zone (kept_of z)) a.message.answers a.message.authorities ≡ Leaves records → Held m (accepted_in m a place z records)
-      accepted_held place z records h j =
+      accepted_held : (index : ℕ) (z : ZoneState) (records : List Record) → IsAllowed m.zones a index z
+          → verdict (newest_zone (kept_of z)) a.message.answers a.message.authorities ≡ Leaves records → Held m (accepted_in m a index z records)
+      accepted_held index z records h j =
           let made : Made = record { update = a.message; records = records } in
-          tested (Held m) (has_room (kept_of z) records) (stages m a place z records, []) (waits m a place rcode_servfail (newest_serial z) (updates_of z), [])
-          (λ room. stage_held m a place z records s h.stands (fits z (length (updates_of z)) (newest_after z.loaded (versions_of (updates_of z))) made (accepted_on z made j room) (brings a b m still place z h)))
-          (λ _. wait_held m a place rcode_servfail z s h.stands)
+          tested (Held m) (has_room (kept_of z) records) (stages m a index z records, []) (waits m a index rcode_servfail (newest_serial z) (updates_of z), [])
+          (λ room. stage_held m a index z records s h.stands (fits z (length (updates_of z)) (newest_after z.loaded (versions_of (updates_of z))) made (accepted_on z made j room) (brings a b m still index z h)))
+          (λ _. wait_held m a index rcode_servfail z s h.stands)
 
-      judged_held : (place : ℕ) (z : ZoneState) (v : Verdict) → IsAllowed m.zones a place z → verdict (newest_zone (kept_of z)) a.message.answers a.message.authorities ≡ v
-          → Held m (judged_in m a place z v)
-      judged_held place z (Refuses rcode) h j = wait_held m a place (number_of_rcode rcode) z s h.stands
-      judged_held place z Keeps h j = wait_held m a place 0 z s h.stands
-      judged_held place z (Leaves records) h j = accepted_held place z records h j
+      judged_held : (index : ℕ) (z : ZoneState) (v : Verdict) → IsAllowed m.zones a index z → verdict (newest_zone (kept_of z)) a.message.answers a.message.authorities ≡ v
+          → Held m (judged_in m a index z v)
+      judged_held index z (Refuses rcode) h j = wait_held m a index (number_of_rcode rcode) z s h.stands
+      judged_held index z Keeps h j = wait_held m a index 0 z s h.stands
+      judged_held index z (Leaves records) h j = accepted_held index z records h j
 
       admitted_held : (d : Admission) → AllowedIn m.zones a d → Held m (admitted m a d)
       admitted_held (Rejects rcode) h = with_reply m m [] a.to (text (bare_reply a.message.header rcode)) (stays m s)
-      admitted_held (Admits place z) h = judged_held place z (verdict (newest_zone (kept_of z)) a.message.answers a.message.authorities) h refl
+      admitted_held (Admits index z) h = judged_held index z (verdict (newest_zone (kept_of z)) a.message.answers a.message.authorities) h refl
 
     update_held : (fails : List Bool) (a : Asked) (effects : Effects) (new : Machine) → IsBrought a → Placed old → IsUpdated fails old a effects new → IsHeld (IsMoved C) old new effects.sent
     update_held fails a effects new b s u =
@@ -389,10 +389,10 @@ module _ (C : Shape → ℕ → List Record → Made → Type 0) where
   arrived_held old number octets fits fails (Some peer) effects new e s g =
       served_held old (Arrives number octets) fits fails (to.Connection number) peer Tcp octets _ effects new (e, refl, refl) refl s g
 
-  checkpointed_held : (fails : List Bool) (old : Machine) (place : ℕ) (o : Option ZoneState) (effects : Effects) (new : Machine) → Placed old → IsCheckpointed fails old place o effects new
+  checkpointed_held : (fails : List Bool) (old : Machine) (index : ℕ) (o : Option ZoneState) (effects : Effects) (new : Machine) → Placed old → IsCheckpointed fails old index o effects new
       → IsHeld (IsMoved C) old new effects.sent
-  checkpointed_held fails old place None effects new s g = given (IsMoved C) old effects new old [] [] g.1 (stays old s)
-  checkpointed_held fails old place (Some z) effects new s g = still_held old new effects.sent (begun_held fails old (Some (place, 0)) effects new s g)
+  checkpointed_held fails old index None effects new s g = given (IsMoved C) old effects new old [] [] g.1 (stays old s)
+  checkpointed_held fails old index (Some z) effects new s g = still_held old new effects.sent (begun_held fails old (Some (index, 0)) effects new s g)
 
   event_held : (fails : List Bool) (old : Machine) (event : Event) (effects : Effects) (new : Machine)
       → ((w : ZoneState) (n : ℕ) (before : List Record) (made : Made) → IsAccepted w.setting.shape n before made → Brings old event w made.update → C w.setting.shape n before made)
@@ -405,7 +405,7 @@ module _ (C : Shape → ℕ → List Record → Made → Type 0) where
   event_held fails old (Arrives number octets) effects new fits s g = arrived_held old number octets fits fails (peer_at number old.connections) effects new refl s g
   event_held fails old Flush effects new fits s g =
       still_held old new effects.sent (given IsStill old effects new (flushed fails old) (flush_sends fails old) fails g.1 (flush_held fails old g.0 s))
-  event_held fails old (Checkpoint place) effects new fits s g = checkpointed_held fails old place (slice_get old.zones place) effects new s g
+  event_held fails old (Checkpoint index) effects new fits s g = checkpointed_held fails old index (slice_get old.zones index) effects new s g
   event_held fails old (Pump number) effects new fits s g = quiet_held old new effects.sent s (pumped_quiet old number (sending_at number old.connections) effects.sent new g.1)
   event_held fails old (Closed number) effects new fits s g = given (IsMoved C) old effects new (closed number old) [] [] g.1 (close_held number old s)
 

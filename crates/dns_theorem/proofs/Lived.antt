@@ -104,13 +104,13 @@ recovered_moved C least most making z w r =
       updates = inr (inr (r.lost, whole ∙ ap (λ (us : List Made). us ++ r.lost) (sym (now ∙ r.shown)), now));
     }
 
-all_recovered : (C : Shape → ℕ → List Record → Made → Type 0) (least most : ℕ) (m : Machine) (event : Event) (place : ℕ) (old new : List ZoneState) → AreRecovered least most m event place old new
+all_recovered : (C : Shape → ℕ → List Record → Made → Type 0) (least most : ℕ) (m : Machine) (event : Event) (index : ℕ) (old new : List ZoneState) → AreRecovered least most m event index old new
     → Each2 (IsMoved C) old new
-all_recovered C least most m event place [] [] r = tt
-all_recovered C least most m event place [] (w ∷ new) r = absurd r
-all_recovered C least most m event place (z ∷ old) [] r = absurd r
-all_recovered C least most m event place (z ∷ old) (w ∷ new) r =
-    (recovered_moved C least most (IsMaking m event place z) z w r.0, all_recovered C least most m event (suc place) old new r.1)
+all_recovered C least most m event index [] [] r = tt
+all_recovered C least most m event index [] (w ∷ new) r = absurd r
+all_recovered C least most m event index (z ∷ old) [] r = absurd r
+all_recovered C least most m event index (z ∷ old) (w ∷ new) r =
+    (recovered_moved C least most (IsMaking m event index z) z w r.0, all_recovered C least most m event (suc index) old new r.1)
 
 anew_moved : (C : Shape → ℕ → List Record → Made → Type 0) (z w : ZoneState) → IsSetAnew z w → IsMoved C z w
 anew_moved C z w s = record {
@@ -150,9 +150,9 @@ opened_lasts more z w o = record { shape = ap (λ (x : Setting). x.shape) o.sett
 reopened_moved : (C : Shape → ℕ → List Record → Made → Type 0) (z w : ZoneState) → IsOpenedWith [] z w → IsMoved C z w
 reopened_moved C z w o = record { lasts = opened_lasts [] z w o; updates = inl (opened_now [] z w o ∙ append-nil z.shown ∙ sym (opened_none [] z w o)) }
 
-loaded_moved : (C : Shape → ℕ → List Record → Made → Type 0) (m : Machine) (place : ℕ) (file : List Record) (new : Machine) → Fits C m (Loaded place file new)
-    → (t : IsTended (HasLoaded file) place m new) → IsMoved C t.zone t.next
-loaded_moved C m place file new fits t =
+loaded_moved : (C : Shape → ℕ → List Record → Made → Type 0) (m : Machine) (index : ℕ) (file : List Record) (new : Machine) → Fits C m (Loaded index file new)
+    → (t : IsTended (HasLoaded file) index m new) → IsMoved C t.zone t.next
+loaded_moved C m index file new fits t =
     let z = t.zone in
     let w = t.next in
     let h = t.made in
@@ -172,18 +172,18 @@ loaded_moved C m place file new fits t =
       ));
     }
 
-tended_held : (C : Shape → ℕ → List Record → Made → Type 0) (R : ZoneState → ZoneState → Type 0) (place : ℕ) (m new : Machine) → (t : IsTended R place m new) → IsMoved C t.zone t.next
+tended_held : (C : Shape → ℕ → List Record → Made → Type 0) (R : ZoneState → ZoneState → Type 0) (index : ℕ) (m new : Machine) → (t : IsTended R index m new) → IsMoved C t.zone t.next
     → IsHeld (IsMoved C) m new []
-tended_held C R place m new t moved = record {
-  zones = subst (λ (x : Machine). Each2 (IsMoved C) m.zones x.zones) (sym t.is) (pair_set (IsMoved C) (moved_itself C) m.zones place t.zone t.next t.there moved);
+tended_held C R index m new t moved = record {
+  zones = subst (λ (x : Machine). Each2 (IsMoved C) m.zones x.zones) (sym t.is) (pair_set (IsMoved C) (moved_itself C) m.zones index t.zone t.next t.there moved);
   placed = none_placed new (ap (λ (x : Machine). x.waiting) t.is ∙ t.waiting);
   good = tt;
 }
 
 act_held : (C : Shape → ℕ → List Record → Made → Type 0) (m : Machine) (act : Act) → Fits C m act → Placed m → Follows m act → IsHeld (IsMoved C) m (machine_of act) (sent_by act)
 act_held C m (Ran moment) fits p h = moment_held C m moment fits p h
-act_held C m (Loaded place file new) fits p h = tended_held C (HasLoaded file) place m new h (loaded_moved C m place file new fits h)
-act_held C m (Reopened place new) fits p h = tended_held C (IsOpenedWith []) place m new h (reopened_moved C h.zone h.next h.made)
+act_held C m (Loaded index file new) fits p h = tended_held C (HasLoaded file) index m new h (loaded_moved C m index file new fits h)
+act_held C m (Reopened index new) fits p h = tended_held C (IsOpenedWith []) index m new h (reopened_moved C h.zone h.next h.made)
 
 -- ---- a life
 abbrev AllFit : (Shape → ℕ → List Record → Made → Type 0) → Machine → List Act → Type 0
@@ -226,7 +226,7 @@ brings_as m (Took event fails effects new) y w x e b = record {
   came = b.came;
   question = b.question;
   asks = b.asks;
-  place = b.place;
+  index = b.index;
   zone = b.zone;
   there = b.there;
   shape = b.shape ∙ sym e;
@@ -238,8 +238,8 @@ brings_as m (Configured new) y w x e b = absurd b
 
 brought_as : (m : Machine) (act : Act) (y w : ZoneState) (x : Message) → w.setting.shape ≡ y.setting.shape → BringsBy m act y x → BringsBy m act w x
 brought_as m (Ran moment) y w x e b = brings_as m moment y w x e b
-brought_as m (Loaded place file new) y w x e b = absurd b
-brought_as m (Reopened place new) y w x e b = absurd b
+brought_as m (Loaded index file new) y w x e b = absurd b
+brought_as m (Reopened index new) y w x e b = absurd b
 
 came_as : (m : Machine) (life : List Act) (y w : ZoneState) (x : Message) → w.setting.shape ≡ y.setting.shape → CameAlong m life y x → CameAlong m life w x
 came_as m [] y w x e c = absurd c
@@ -248,8 +248,8 @@ came_as m (act ∷ rest) y w x e (inr c) = inr (came_as (machine_of act) rest y 
 
 loads_as : (m : Machine) (act : Act) (y w : ZoneState) (rs : List Record) → w.setting.shape ≡ y.setting.shape → LoadsBy m act y rs → LoadsBy m act w rs
 loads_as m (Ran moment) y w rs e b = absurd b
-loads_as m (Loaded place file new) y w rs e b = (b.0, record { zone = (b.1).zone; there = (b.1).there; shape = (b.1).shape ∙ sym e })
-loads_as m (Reopened place new) y w rs e b = absurd b
+loads_as m (Loaded index file new) y w rs e b = (b.0, record { zone = (b.1).zone; there = (b.1).there; shape = (b.1).shape ∙ sym e })
+loads_as m (Reopened index new) y w rs e b = absurd b
 
 loaded_as : (m : Machine) (life : List Act) (y w : ZoneState) (rs : List Record) → w.setting.shape ≡ y.setting.shape → LoadedAlong m life y rs → LoadedAlong m life w rs
 loaded_as m [] y w rs e c = absurd c
@@ -282,21 +282,21 @@ grown_of start life z w h = record {
 }
 
 -- how often stores were opened
-tended_opens : (R : ZoneState → ZoneState → Type 0) (place : ℕ) (m new : Machine) → (t : IsTended R place m new) → (t.next).openings ≤ (t.zone).openings + 1 → Each2 (IsOpenedAtMost 1) m.zones new.zones
-tended_opens R place m new t few =
-    subst (λ (x : Machine). Each2 (IsOpenedAtMost 1) m.zones x.zones) (sym t.is) (pair_set (IsOpenedAtMost 1) (λ z. omega arith) m.zones place t.zone t.next t.there few)
+tended_opens : (R : ZoneState → ZoneState → Type 0) (index : ℕ) (m new : Machine) → (t : IsTended R index m new) → (t.next).openings ≤ (t.zone).openings + 1 → Each2 (IsOpenedAtMost 1) m.zones new.zones
+tended_opens R index m new t few =
+    subst (λ (x : Machine). Each2 (IsOpenedAtMost 1) m.zones x.zones) (sym t.is) (pair_set (IsOpenedAtMost 1) (λ z. omega arith) m.zones index t.zone t.next t.there few)
 
 life_opens : (m : Machine) (life : List Act) → Life m life → Each2 (IsOpenedAtMost (openings_of life)) m.zones (end_of m life).zones
 life_opens m [] l = pair_same (IsOpenedAtMost 0) (λ z. omega arith) m.zones
 life_opens m (Ran moment ∷ rest) l =
     pair_then (IsOpenedAtMost (openings_in (moment ∷ []))) (IsOpenedAtMost (openings_of rest)) (IsOpenedAtMost (openings_in (moment ∷ []) + openings_of rest)) (λ a b c p q. omega (arith, p, q))
     m.zones (machine_after moment).zones (end_of (machine_after moment) rest).zones (run_counts m (moment ∷ []) (l.0, tt)) (life_opens (machine_after moment) rest l.1)
-life_opens m (Loaded place file new ∷ rest) l =
+life_opens m (Loaded index file new ∷ rest) l =
     pair_then (IsOpenedAtMost 1) (IsOpenedAtMost (openings_of rest)) (IsOpenedAtMost (suc (openings_of rest))) (λ a b c p q. omega (arith, p, q))
-    m.zones new.zones (end_of new rest).zones (tended_opens (HasLoaded file) place m new l.0 (l.0).made.opened.at_most) (life_opens new rest l.1)
-life_opens m (Reopened place new ∷ rest) l =
+    m.zones new.zones (end_of new rest).zones (tended_opens (HasLoaded file) index m new l.0 (l.0).made.opened.at_most) (life_opens new rest l.1)
+life_opens m (Reopened index new ∷ rest) l =
     pair_then (IsOpenedAtMost 1) (IsOpenedAtMost (openings_of rest)) (IsOpenedAtMost (suc (openings_of rest))) (λ a b c p q. omega (arith, p, q))
-    m.zones new.zones (end_of new rest).zones (tended_opens (IsOpenedWith []) place m new l.0 (l.0).made.at_most) (life_opens new rest l.1)
+    m.zones new.zones (end_of new rest).zones (tended_opens (IsOpenedWith []) index m new l.0 (l.0).made.at_most) (life_opens new rest l.1)
 
 pub life_leaves : (start : Machine) (life : List Act) → IsAtRest start → Life start life → Legacy start life
 life_leaves start life rest l =

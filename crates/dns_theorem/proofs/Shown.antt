@@ -44,7 +44,7 @@ place_same apex (z ∷ olds) (w ∷ news) h =
 
 later_at : (apex : Labels) (z : ZoneState) (olds news : List ZoneState) (o : Option ℕ) → AllLast olds news → zone_at olds o ≡ Some z → (w : ZoneState) × (zone_at news o ≡ Some w) × Lasts z w
 later_at apex z olds news None h e = absurd cc
-later_at apex z olds news (Some place) h e = (let f = pair_found Lasts olds news place z h e in (f.zone, f.stands, f.holds))
+later_at apex z olds news (Some index) h e = (let f = pair_found Lasts olds news index z h e in (f.zone, f.stands, f.holds))
 
 later : (apex : Labels) (z : ZoneState) (olds news : List ZoneState) → AllLast olds news → zone_named apex olds ≡ Some z → IsLater apex z news
 later apex z olds news h e =
@@ -53,14 +53,14 @@ later apex z olds news h e =
 
 apex_at : (apex : Labels) (zones : List ZoneState) (z : ZoneState) (o : Option ℕ) → NamedAt apex zones o → zone_at zones o ≡ Some z → names_eq z.setting.shape.apex apex ≡ true
 apex_at apex zones z None n e = absurd cc
-apex_at apex zones z (Some place) n e = subst (IsNamed apex) e n
+apex_at apex zones z (Some index) n e = subst (IsNamed apex) e n
 
 pub apex_is : (apex : Labels) (zones : List ZoneState) (z : ZoneState) → zone_named apex zones ≡ Some z → z.setting.shape.apex ≡ apex
 apex_is apex zones z e = names_same z.setting.shape.apex apex (apex_at apex zones z (zone_position apex zones) (place_named apex zones) e)
 
 at_found : (P : ZoneState → Type 0) (zones : List ZoneState) (z : ZoneState) (o : Option ℕ) → AllByRecursion P zones → zone_at zones o ≡ Some z → P z
 at_found P zones z None h e = absurd cc
-at_found P zones z (Some place) h e = all_found P zones place z h e
+at_found P zones z (Some index) h e = all_found P zones index z h e
 
 pub named_found : (P : ZoneState → Type 0) (apex : Labels) (zones : List ZoneState) (z : ZoneState) → AllByRecursion P zones → zone_named apex zones ≡ Some z → P z
 named_found P apex zones z h e = at_found P zones z (zone_position apex zones) h e

@@ -48,8 +48,8 @@ pub record BeginsSoundly (m : Machine) : Type 0 where
 -- What comes in an act are octets, and what is loaded are records that a zone can have.
 abbrev pub IsSoundAct : Act → Type 0
 IsSoundAct (Ran moment) = AreOctetsIn moment
-IsSoundAct (Loaded place file new) = AllByRecursion IsRecord file
-IsSoundAct (Reopened place new) = Unit {0}
+IsSoundAct (Loaded index file new) = AllByRecursion IsRecord file
+IsSoundAct (Reopened index new) = Unit {0}
 
 -- Whoever holds nothing of a zone, or a version that was shown of it at any time of the life, before
 -- whichever loads and migrations, and asks for a transfer by TCP, is fed what the machine gives out for it,

@@ -34,7 +34,7 @@ CarriesOctets (Datagram peer octets) = AllByRecursion (λ octet. octet < 256) oc
 CarriesOctets (Arrives number octets) = AllByRecursion (λ octet. octet < 256) octets
 CarriesOctets (Connect peer) = Unit {0}
 CarriesOctets Flush = Unit {0}
-CarriesOctets (Checkpoint place) = Unit {0}
+CarriesOctets (Checkpoint index) = Unit {0}
 CarriesOctets (Pump number) = Unit {0}
 CarriesOctets (Closed number) = Unit {0}
 
@@ -107,7 +107,7 @@ pumped number (Datagram peer octets) effects = []
 pumped number (Arrives other octets) effects = []
 pumped number (Connect peer) effects = []
 pumped number Flush effects = []
-pumped number (Checkpoint place) effects = []
+pumped number (Checkpoint index) effects = []
 pumped number (Closed other) effects = []
 
 abbrev pub pumped_in : ℕ → List Moment → List (List ℕ)

@@ -28,8 +28,8 @@ pub data Act : Type 0 where
 
 abbrev pub machine_of : Act → Machine
 machine_of (Ran moment) = machine_after moment
-machine_of (Loaded place file new) = new
-machine_of (Reopened place new) = new
+machine_of (Loaded index file new) = new
+machine_of (Reopened index new) = new
 
 -- The records of a file may be the version after this one: they are a valid zone of the store's name, whose
 -- serial is greater (RFC 1982 3.2), and there is room for them, as for what an update leaves.
@@ -69,19 +69,19 @@ pub record HasLoaded (file : List Record) (old new : ZoneState) : Type 0 where
 
 -- The machine is stopped: nothing waits, and nobody is connected. The zone at the position becomes another
 -- so, and all else stays.
-pub record IsTended (becomes : ZoneState → ZoneState → Type 0) (place : ℕ) (old new : Machine) : Type 0 where
+pub record IsTended (becomes : ZoneState → ZoneState → Type 0) (index : ℕ) (old new : Machine) : Type 0 where
   pub waiting : old.waiting ≡ []
   pub connections : old.connections ≡ []
   pub zone : ZoneState
-  pub there : slice_get old.zones place ≡ Some zone
+  pub there : slice_get old.zones index ≡ Some zone
   pub next : ZoneState
   pub made : becomes zone next
-  pub is : new ≡ record old { zones = slice_set old.zones place next }
+  pub is : new ≡ record old { zones = slice_set old.zones index next }
 
 abbrev pub Follows : Machine → Act → Type 0
 Follows m (Ran moment) = Happens m moment
-Follows m (Loaded place file new) = IsTended (HasLoaded file) place m new
-Follows m (Reopened place new) = IsTended (IsOpenedWith []) place m new
+Follows m (Loaded index file new) = IsTended (HasLoaded file) index m new
+Follows m (Reopened index new) = IsTended (IsOpenedWith []) index m new
 
 -- Each of these happens to the machine that those before it left.
 abbrev pub Life : Machine → List Act → Type 0
@@ -95,13 +95,13 @@ end_of m (act ∷ rest) = end_of (machine_of act) rest
 -- What goes out in an act: nothing but in a run.
 abbrev pub sent_by : Act → List Sent
 sent_by (Ran moment) = sent_in moment
-sent_by (Loaded place file new) = []
-sent_by (Reopened place new) = []
+sent_by (Loaded index file new) = []
+sent_by (Reopened index new) = []
 
 abbrev pub BringsBy : Machine → Act → ZoneState → Message → Type 0
 BringsBy m (Ran moment) z update = BringsIn m moment z update
-BringsBy m (Loaded place file new) z update = ⊥
-BringsBy m (Reopened place new) z update = ⊥
+BringsBy m (Loaded index file new) z update = ⊥
+BringsBy m (Reopened index new) z update = ⊥
 
 -- The update came in one of these acts, from an address that might update the zone then.
 abbrev pub CameAlong : Machine → List Act → ZoneState → Message → Type 0
@@ -109,15 +109,15 @@ CameAlong m [] z update = ⊥
 CameAlong m (act ∷ rest) z update = BringsBy m act z update ⊎ CameAlong (machine_of act) rest z update
 
 -- The zone at the position has this one's name and the sizes of its store.
-pub record IsAt (m : Machine) (place : ℕ) (z : ZoneState) : Type 0 where
+pub record IsAt (m : Machine) (index : ℕ) (z : ZoneState) : Type 0 where
   pub zone : ZoneState
-  pub there : slice_get m.zones place ≡ Some zone
+  pub there : slice_get m.zones index ≡ Some zone
   pub shape : zone.setting.shape ≡ z.setting.shape
 
 abbrev pub LoadsBy : Machine → Act → ZoneState → List Record → Type 0
 LoadsBy m (Ran moment) z records = ⊥
-LoadsBy m (Loaded place file new) z records = (records ≡ file) × IsAt m place z
-LoadsBy m (Reopened place new) z records = ⊥
+LoadsBy m (Loaded index file new) z records = (records ≡ file) × IsAt m index z
+LoadsBy m (Reopened index new) z records = ⊥
 
 -- The records are a file's that was loaded into the zone's store in one of these acts.
 abbrev pub LoadedAlong : Machine → List Act → ZoneState → List Record → Type 0
@@ -152,8 +152,8 @@ pub record StaysTrueOf (zones : List ZoneState) (act : Act) : Type 0 where
 abbrev pub openings_of : List Act → ℕ
 openings_of [] = 0
 openings_of (Ran moment ∷ rest) = openings_in (moment ∷ []) + openings_of rest
-openings_of (Loaded place file new ∷ rest) = suc (openings_of rest)
-openings_of (Reopened place new ∷ rest) = suc (openings_of rest)
+openings_of (Loaded index file new ∷ rest) = suc (openings_of rest)
+openings_of (Reopened index new ∷ rest) = suc (openings_of rest)
 
 -- A machine that is not running: nothing waits, and nothing is staged.
 pub record IsAtRest (m : Machine) : Type 0 where

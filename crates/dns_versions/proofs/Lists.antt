@@ -3,7 +3,7 @@ use Rattle.std.proofs.Common.{◌≡◌, ◌<◌, ◌+◌, ℕ, zero, suc, Bool,
 use Rattle.std.specs.Prelude.{Option, Some, None, slice_get, slice_set, slice_index_or, option_map}
 use Rattle.dns_store.specs.Versions.{Kept}
 use Rattle.dns_zone.specs.Zone.{Zone}
-use Rattle.dns_versions.specs.declared.pending.PendingZone.{PendingZone}
+use Rattle.dns_versions.specs.declared.zone_versions.ZoneVersions.{ZoneVersions}
 use Rattle.dns_versions.specs.Held.{newer, newest_each}
 use Rattle.dns_versions.specs.Each.{Each3}
 use Rattle.dns_versions.specs.Flush.{kept_after_flush, flushed_to, first_true, FailedWhere, IsCounted}
@@ -112,7 +112,7 @@ pub same_at : {A : Type 0} (xs ys : List A) (i : ℕ) (d : A) → drop i xs ≡ 
 same_at xs ys i d e = at_drop xs i d ∙ ap (λ l. slice_index_or l 0 d) e ∙ sym (at_drop ys i d)
 
 -- a zone in its place, with the same newest version
-pub newest_set : {I S : Type 0} (zones : List Zone) (pending : List (PendingZone I S)) (i : ℕ) (d : Zone) (e : PendingZone I S) (z : Zone) (b : PendingZone I S) → newer z b.tip ≡ newer (slice_index_or zones i d) (slice_index_or pending i e).tip
+pub newest_set : {I S : Type 0} (zones : List Zone) (pending : List (ZoneVersions I S)) (i : ℕ) (d : Zone) (e : ZoneVersions I S) (z : Zone) (b : ZoneVersions I S) → newer z b.tip ≡ newer (slice_index_or zones i d) (slice_index_or pending i e).tip
     → newest_each (slice_set zones i z) (slice_set pending i b) ≡ newest_each zones pending
 newest_set [] pending i d e z b same = refl
 newest_set (y ∷ zones) [] zero d e z b same = refl
@@ -120,13 +120,13 @@ newest_set (y ∷ zones) [] (suc i) d e z b same = refl
 newest_set (y ∷ zones) (c ∷ pending) zero d e z b same = ap (λ (v : Zone). v ∷ newest_each zones pending) same
 newest_set (y ∷ zones) (c ∷ pending) (suc i) d e z b same = ap (λ (l : List Zone). newer y c.tip ∷ l) (newest_set zones pending i d e z b same)
 
-pub newest_kept : {I S : Type 0} (zones : List Zone) (pending : List (PendingZone I S)) (i : ℕ) (e b : PendingZone I S) → b.tip ≡ (slice_index_or pending i e).tip → newest_each zones (slice_set pending i b) ≡ newest_each zones pending
+pub newest_kept : {I S : Type 0} (zones : List Zone) (pending : List (ZoneVersions I S)) (i : ℕ) (e b : ZoneVersions I S) → b.tip ≡ (slice_index_or pending i e).tip → newest_each zones (slice_set pending i b) ≡ newest_each zones pending
 newest_kept [] pending i e b same = refl
 newest_kept (y ∷ zones) [] i e b same = refl
 newest_kept (y ∷ zones) (c ∷ pending) zero e b same = ap (λ (t : Option Zone). newer y t ∷ newest_each zones pending) same
 newest_kept (y ∷ zones) (c ∷ pending) (suc i) e b same = ap (λ (l : List Zone). newer y c.tip ∷ l) (newest_kept zones pending i e b same)
 
-pub newest_at : {I S : Type 0} (zones : List Zone) (pending : List (PendingZone I S)) (i : ℕ) (d : Zone) (e : PendingZone I S) → i < length zones → i < length pending
+pub newest_at : {I S : Type 0} (zones : List Zone) (pending : List (ZoneVersions I S)) (i : ℕ) (d : Zone) (e : ZoneVersions I S) → i < length zones → i < length pending
     → slice_get (newest_each zones pending) i ≡ Some (newer (slice_index_or zones i d) (slice_index_or pending i e).tip)
 newest_at [] pending i d e a b = absurd (omega arith)
 newest_at (y ∷ zones) [] i d e a b = absurd (omega arith)

@@ -1,6 +1,6 @@
 -- The next version beside the newest one.
 use Rattle.std.proofs.Common.{◌≡◌, ◌≤◌, ◌<◌, ◌+◌, ◌-◌, ◌*◌, ◌^◌, ℕ, Bool, true, List, [], ◌∷◌, ◌++◌, Option, Some, None, length, refl, sym, ap, subst, ◌∙◌, arith, append-nil, append_assoc}
-use Rattle.std.specs.Prelude.{nat_le, nat_lt, false, Result, Ok, Err, if◌then◌else◌}
+use Rattle.std.specs.Prelude.{nat_le, nat_lt, false, if◌then◌else◌}
 use Rattle.dns_zone.specs.declared.ZoneError.TheVariants.{TooMany}
 use Rattle.std.proofs.Math.Bool.{Bool-set}
 use Rattle.std.proofs.Math.Logic.{∥∥₁_elim}
@@ -10,17 +10,13 @@ use Rattle.dns_zone.specs.Zone.{Zone, IsZone}
 use Rattle.dns_zone.specs.Sets.{sorted_from}
 use Rattle.dns_changes.specs.Change.{Change, IsChange}
 use Rattle.dns_changes.specs.Version.{IsVersionAfter}
-use Rattle.dns_journal.specs.declared.journal.StageError.{StageError}
-use Rattle.dns_journal.specs.declared.journal.StageError.TheVariants as lower
 use Rattle.dns_store.specs.Versions.{Kept, Versions, newest_after, newest_of, staged_with}
 use Rattle.dns_store.specs.Room.{entry_between, sectors_left}
 use Rattle.dns_store.specs.Staged.{newest_append}
-use Rattle.dns_versions.specs.Staging.{has_room, HasRoomBy, staging_error}
-use Rattle.std.specs.Result.{IsErrAnd}
-use Rattle.dns_versions.specs.declared.staging.StagingError.{StagingError}
+use Rattle.dns_versions.specs.Staging.{has_room}
 use Rattle.dns_store.specs.Plain.{octets_of, sectors_of_snapshot}
 use Rattle.dns_versions.specs.Held.{HasVersions, IsTip, newer, newest_zone, shown_zone}
-use Rattle.dns_versions.specs.declared.pending.PendingZone.{PendingZone}
+use Rattle.dns_versions.specs.declared.zone_versions.ZoneVersions.{ZoneVersions}
 use Rattle.dns_store.proofs.Counts.{counts}
 use Rattle.dns_store.proofs.Chosen.{short_all}
 
@@ -28,7 +24,7 @@ pub tip_newest : (zone : Zone) (o : Option Zone) (k : Kept) → zone ≡ shown_z
 tip_newest zone None k is none = is ∙ λ i. record { apex = k.shape.apex; records = newest_after k.loaded ((sym (append-nil k.shown) ∙ sym (ap (λ (vs : Versions). k.shown ++ vs) none)) i) }
 tip_newest zone (Some tip) k is none = none
 
-pub newer_is : {I S : Type 0} (keeps : S → Kept → Type 0) (zone : Zone) (b : PendingZone I S) (k : Kept) → HasVersions keeps zone b k → newer zone b.tip ≡ newest_zone k
+pub newer_is : {I S : Type 0} (keeps : S → Kept → Type 0) (zone : Zone) (b : ZoneVersions I S) (k : Kept) → HasVersions keeps zone b k → newer zone b.tip ≡ newest_zone k
 newer_is keeps zone b k held = tip_newest zone b.tip k held.zone_is held.tip_is
 
 -- what is counted beside a version are its octets, where it has so few records
@@ -57,18 +53,6 @@ room_number k after e = grind (arith, nat_tests, e)
 
 pub room_fits : (k : Kept) (after : List Record) → has_room k after ≡ true → sectors_of_snapshot after ≤ k.shape.snapshot
 room_fits k after e = grind (arith, nat_tests, e)
-
--- why the store refused it
-refused_room : (T : Type 0) (k : Kept) (after : List Record) (e : StageError) → has_room k after ≡ true → (e ≡ lower.Full → sectors_left k < entry_between (newest_of k) after) → (e ≡ lower.Closed → k.closed ≡ true)
-    → HasRoomBy {T = T} k after (Err (staging_error e))
-refused_room T k after lower.Full room full closed = (room, full refl)
-refused_room T k after lower.Closed room full closed = closed refl
-refused_room T k after lower.OutOfMemory room full closed = tt
-
-pub refused_by : {T : Type 0} (k : Kept) (after : List Record) (r : Result T StagingError) (e : StageError) → IsErrAnd r (λ x. x ≡ staging_error e) → has_room k after ≡ true
-    → (e ≡ lower.Full → sectors_left k < entry_between (newest_of k) after) → (e ≡ lower.Closed → k.closed ≡ true) → HasRoomBy k after r
-refused_by k after (Ok v) e is room full closed = absurd is
-refused_by {T} k after (Err x) e is room full closed = subst (λ (y : StagingError). HasRoomBy {T = T} k after (Err y)) (sym is) (refused_room T k after e room full closed)
 
 pub staged_newest : (k : Kept) (after : List Record) → newest_of (staged_with after k) ≡ after
 staged_newest k after = ap (λ (vs : Versions). newest_after k.loaded vs) (sym (append_assoc k.shown k.staged (after ∷ []))) ∙ newest_append k.loaded (k.shown ++ k.staged) after

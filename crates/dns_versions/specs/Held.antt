@@ -3,7 +3,7 @@ use Rattle.std.specs.Prelude.{◌≡◌, List, [], ◌∷◌, length, Option, So
 use Rattle.dns_zone.specs.Zone.{Zone}
 use Rattle.dns_store.specs.Versions.{Kept, shown_of, newest_of}
 use Rattle.dns_store.specs.Plain.{octets_of}
-use Rattle.dns_versions.specs.declared.pending.PendingZone.{PendingZone}
+use Rattle.dns_versions.specs.declared.zone_versions.ZoneVersions.{ZoneVersions}
 
 abbrev pub shown_zone : Kept → Zone
 shown_zone k = record { apex = k.shape.apex; records = shown_of k }
@@ -17,7 +17,7 @@ newer zone None = zone
 newer zone (Some tip) = tip
 
 -- That of each zone.
-abbrev pub newest_each : {I S : Type 0} → List Zone → List (PendingZone I S) → List Zone
+abbrev pub newest_each : {I S : Type 0} → List Zone → List (ZoneVersions I S) → List Zone
 newest_each [] pending = []
 newest_each (z ∷ zones) [] = []
 newest_each (z ∷ zones) (b ∷ pending) = newer z b.tip ∷ newest_each zones pending
@@ -28,7 +28,7 @@ IsTip None k = k.staged ≡ []
 IsTip (Some tip) k = tip ≡ newest_zone k
 
 -- These are the versions of the zone, and of what backs it. `keeps` says what its store keeps.
-pub record HasVersions {I S : Type 0} (keeps : S → Kept → Type 0) (zone : Zone) (b : PendingZone I S)
+pub record HasVersions {I S : Type 0} (keeps : S → Kept → Type 0) (zone : Zone) (b : ZoneVersions I S)
     (k : Kept) : Type 0 where
   pub zone_is : zone ≡ shown_zone k
   pub tip_is : IsTip b.tip k

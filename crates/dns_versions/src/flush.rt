@@ -6,38 +6,36 @@ ghost use Rattle.dns_versions.specs.Each.{Each3};
 ghost use Rattle.dns_versions.specs.Held.{HasVersions, newer, newest_each};
 ghost use Rattle.dns_versions.specs.Flush.{IsCounted, FailedWhere, kept_after_flush, flushed_to, first_true};
 
-use crate::PendingZone;
+use crate::ZoneVersions;
 use dns_store::{FlushError, ZoneStore};
 use dns_zone::{Zone, ZoneIndex};
 
-/// Makes the staged versions of a zone durable and shows the newest, unless its device fails. Answers whether
-/// it failed. A zone whose device failed before stays as it is.
-pub fn flush_zone<I: ZoneIndex, S: ZoneStore>(
-    zone: &mut Zone<I>,
-    pending: &mut PendingZone<I, S>,
-) -> bool
-    ensures held { (k : Kept)
-        → HasVersions S.keeps zone.old pending.old k
-        → HasVersions S.keeps zone.new pending.new (kept_after_flush result k) }
-    // A crash at any moment of it leaves a device that opens as the versions shown and some of those staged.
-    ensures any_moment { (k : Kept)
-        → S.keeps pending.old.store k
-        → LeavesOnly S.moment S.left_since pending.old.store pending.new.store (OpensAsLeft S.opens k) }
-    ensures failed { IsCounted result (S.failed pending.old.store) (S.failed pending.new.store) }
-    ensures open { (k : Kept) → HasVersions S.keeps zone.old pending.old k
-        → result ≡ true → k.closed ≡ false }
-    ensures newest { newer zone.new pending.new.tip ≡ newer zone.old pending.old.tip }
-{
-    match pending.store.flush() {
-        Ok(()) => {
-            if let Some(tip) = pending.tip.take() {
-                *zone = tip;
+impl<I: ZoneIndex, S: ZoneStore> ZoneVersions<I, S> {
+    /// Makes the staged versions of a zone durable and shows the newest, unless its device fails. Answers
+    /// whether it failed. A zone whose device failed before stays as it is.
+    pub fn flush(&mut self, zone: &mut Zone<I>) -> bool
+        ensures held { (k : Kept) → HasVersions S.keeps zone.old self.old k
+            → HasVersions S.keeps zone.new self.new (kept_after_flush result k) }
+        // A crash at any moment of it leaves a device that opens as the versions shown and some of those
+        // staged.
+        ensures any_moment { (k : Kept) → S.keeps self.old.store k
+            → LeavesOnly S.moment S.left_since self.old.store self.new.store (OpensAsLeft S.opens k) }
+        ensures failed { IsCounted result (S.failed self.old.store) (S.failed self.new.store) }
+        ensures open { (k : Kept) → HasVersions S.keeps zone.old self.old k
+            → result ≡ true → k.closed ≡ false }
+        ensures newest { newer zone.new self.new.tip ≡ newer zone.old self.old.tip }
+    {
+        match self.store.flush() {
+            Ok(()) => {
+                if let Some(tip) = self.tip.take() {
+                    *zone = tip;
+                }
+                self.number = self.store.newest();
+                false
             }
-            pending.number = pending.store.newest();
-            false
+            Err(FlushError::Device) => true,
+            Err(FlushError::Closed) => false,
         }
-        Err(FlushError::Device) => true,
-        Err(FlushError::Closed) => false,
     }
 }
 
@@ -55,7 +53,7 @@ fn first_failure(first: Option<usize>, failed: bool, place: usize) -> Option<usi
 /// Flushes all zones in order. Answers the position of the first whose device failed.
 pub fn flush_all<I: ZoneIndex, S: ZoneStore>(
     zones: &mut [Zone<I>],
-    pending: &mut [PendingZone<I, S>],
+    pending: &mut [ZoneVersions<I, S>],
 ) -> Option<usize>
     requires { length zones.old ≡ length pending.old }
     ensures held { (ks : List Kept) → Each3 (λ z b k. HasVersions S.keeps z b k) zones.old pending.old ks
@@ -71,7 +69,7 @@ pub fn flush_all<I: ZoneIndex, S: ZoneStore>(
 {
     let mut first = None;
     for i in 0..pending.len() {
-        let failed = flush_zone(&mut zones[i], &mut pending[i]);
+        let failed = pending[i].flush(&mut zones[i]);
         first = first_failure(first, failed, i);
     }
     first

@@ -30,7 +30,7 @@ use dns_commands::{
 use dns_configuration::File;
 use dns_devices::{Devices, DevicesToRead, NewDevices};
 use dns_diagnostics::Logger;
-use dns_fetch::{Servers, WaitingStream, Watch, fetch};
+use dns_fetch::{FetchRequest, Servers, WaitingStream, Watch, fetch};
 use dns_memory::Heap;
 use dns_replay::ScriptDevice;
 use dns_sectors::{MemorySectors, Sectors};
@@ -85,15 +85,7 @@ pub fn check_files<N: Inputs, W: Write, E: Write>(
     let config = file(config, &text);
     let texts = master_files(run.alloc, run.heap, inputs, &config)?;
     let files = files_in(run.alloc, &texts)?;
-    Ok(check_configuration::<Index, W, E>(
-        run.alloc,
-        run.heap,
-        &config,
-        &files,
-        run.explain,
-        &mut run.out,
-        &mut run.err,
-    ))
+    Ok(check_configuration::<Index, W, E>(run, &config, &files))
 }
 
 /// Runs a script over the zones of a configuration, and returns the exit status.
@@ -114,15 +106,7 @@ pub fn replay_files<N: Inputs, W: Write, E: Write>(
     let config = file(words.config, &text);
     let texts = master_files(run.alloc, run.heap, inputs, &config)?;
     let files = files_in(run.alloc, &texts)?;
-    Ok(replay(
-        run.alloc,
-        run.heap,
-        &config,
-        &files,
-        &script,
-        &mut run.out,
-        &mut run.err,
-    ))
+    Ok(replay(run, &config, &files, &script))
 }
 
 /// Makes devices, and returns the exit status.
@@ -351,13 +335,16 @@ fn fetch_from<S: WaitingStream + Drop, V: Servers<S>, P: Watch, W: Write, E: Wri
         (option_copied since.entry) run.old.explain (W.contents run.old.out) (W.contents run.new.out)
         (E.contents run.old.err) (E.contents run.new.err) result) }
 {
+    let asked = FetchRequest {
+        server: words.server,
+        origin: words.origin,
+        since,
+        explain: run.explain,
+    };
     fetch::<S, V, Index, P, W, E>(
         run.heap,
         &mut run.servers,
-        words.server,
-        words.origin,
-        since,
-        run.explain,
+        asked,
         &mut run.watch,
         &mut run.out,
         &mut run.err,

@@ -5,13 +5,13 @@ ghost use Rattle.std.specs.Io.KnownBytes.{Appends};
 ghost use Rattle.dns_commands.specs.CheckConfiguration.{ConfigurationCheckEnds, HasSectors, IsFirstTooLarge};
 ghost use Rattle.dns_commands.specs.CheckConfiguration.{good_line};
 
+use crate::frame::Run;
 use dns_configuration::{DONE, FAILED, File, ZoneSettings, load_all, read_configuration, tell};
 use dns_devices::{DeviceFault, tell_device};
 use dns_layout::snapshot_sectors;
 use dns_memory::Heap;
 use dns_store::snapshot_len;
 use dns_zone::{Zone, ZoneIndex};
-use std::alloc::Global;
 use std::io::{self, Write};
 
 /// Whether a snapshot of a zone has room in the sectors that are configured for it.
@@ -73,30 +73,26 @@ fn print_good_zones<I: ZoneIndex, W: Write>(out: &mut W, zones: &[Zone<I>]) -> i
 
 /// Checks a configuration, and gives the exit status.
 fn checked_configuration<I: ZoneIndex, W: Write, E: Write>(
-    alloc: Global,
-    heap: Heap,
+    run: &mut Run<(), W, E>,
     config: &File<'_>,
     files: &[File<'_>],
-    explain: bool,
-    out: &mut W,
-    err: &mut E,
 ) -> io::Result<u8>
     ensures { IfOk result
-        (λ status. ConfigurationCheckEnds config.now files.now explain (W.contents out.old)
-        (W.contents out.new) (E.contents err.old) (E.contents err.new) status) }
+        (λ status. ConfigurationCheckEnds config.now files.now run.old.explain (W.contents run.old.out)
+        (W.contents run.new.out) (E.contents run.old.err) (E.contents run.new.err) status) }
 {
-    let settings = match read_configuration(alloc, heap, config) {
+    let settings = match read_configuration(run.alloc, run.heap, config) {
         Ok(configuration) => configuration.zones,
-        Err(fault) => return tell(err, config.path, fault),
+        Err(fault) => return tell(&mut run.err, config.path, fault),
     };
-    let zones: Vec<Zone<I>, Heap> = match load_all(heap, files, &settings) {
+    let zones: Vec<Zone<I>, Heap> = match load_all(run.heap, files, &settings) {
         Ok(zones) => zones,
-        Err((path, fault)) => return tell(err, path, fault),
+        Err((path, fault)) => return tell(&mut run.err, path, fault),
     };
     if let Some(path) = first_too_large(&settings, &zones) {
-        return tell_device(err, path, DeviceFault::ZoneTooLarge, explain);
+        return tell_device(&mut run.err, path, DeviceFault::ZoneTooLarge, run.explain);
     }
-    print_good_zones(out, &zones)?;
+    print_good_zones(&mut run.out, &zones)?;
     Ok(DONE)
 }
 
@@ -106,18 +102,12 @@ fn checked_configuration<I: ZoneIndex, W: Write, E: Write>(
 /// its device is to have; of the last, if it is wanted, a second line says what can be done. Gives the exit
 /// status: `DONE`, `REFUSED`, or `FAILED` where a writer failed or memory was refused. No device is opened.
 pub fn check_configuration<I: ZoneIndex, W: Write, E: Write>(
-    alloc: Global,
-    heap: Heap,
+    run: &mut Run<(), W, E>,
     config: &File<'_>,
     files: &[File<'_>],
-    explain: bool,
-    out: &mut W,
-    err: &mut E,
 ) -> u8
-    ensures { ConfigurationCheckEnds config.now files.now explain (W.contents out.old) (W.contents out.new)
-        (E.contents err.old) (E.contents err.new) result }
+    ensures { ConfigurationCheckEnds config.now files.now run.old.explain (W.contents run.old.out)
+        (W.contents run.new.out) (E.contents run.old.err) (E.contents run.new.err) result }
 {
-    checked_configuration::<I, W, E>(alloc, heap, config, files, explain, out, err).unwrap_or(
-        FAILED,
-    )
+    checked_configuration::<I, W, E>(run, config, files).unwrap_or(FAILED)
 }

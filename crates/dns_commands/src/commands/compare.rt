@@ -2,7 +2,9 @@
 ghost use Rattle.std.specs.Prelude.{◌≡◌, ◌+◌, ◌∷◌, [], length, OnOk, MatchResult};
 ghost use Rattle.std.specs.Result.{result_unwrap_or};
 ghost use Rattle.std.specs.Io.KnownBytes.{Appends};
+ghost use Rattle.dns_store.specs.Room.{entry_between};
 ghost use Rattle.dns_store.specs.Versions.{Kept, newest_of};
+ghost use Rattle.dns_versions.specs.Staging.{has_room};
 ghost use Rattle.dns_configuration.specs.Calls.{Calls};
 ghost use Rattle.dns_devices.specs.Stores.{own_shape};
 ghost use Rattle.dns_commands.specs.Compare.{ComparingEnds, ComparisonEnds, HasNoDifference, IsChangeWithin};
@@ -14,16 +16,15 @@ ghost use Rattle.dns_commands.specs.Load.{IsChangeTo};
 use crate::change::change_to;
 use crate::commands::load::path_blamed;
 use crate::frame::{Run, zone_named};
-use crate::next_version::has_room;
-use dns_changes::Change;
+use dns_changes::{Change, PreparedEntry};
 use dns_configuration::{DONE, FAILED, File, ZoneSettings, load_one, tell};
 use dns_devices::{DeviceFault, Devices, open_store, tell_device};
-use dns_layout::entry_sectors;
+use dns_layout::{entry_sectors, snapshot_sectors};
 use dns_masterfile::RecordLine;
 use dns_memory::Heap;
 use dns_records::Record;
 use dns_sectors::Sectors;
-use dns_store::ZoneStore;
+use dns_store::{ZoneStore, snapshot_len};
 use dns_zone::{Zone, ZoneIndex};
 use std::io::{self, Write};
 
@@ -79,8 +80,21 @@ fn print_difference<W: Write>(
     }
 }
 
+/// Whether there is room after the version of that number for one of these records, whose entry takes that
+/// number of sectors.
+fn has_room<I: ZoneIndex>(newest: u64, own: &ZoneSettings, zone: &Zone<I>, sectors: usize) -> bool
+    ensures { (k : Kept) → k.shape ≡ own_shape own.now → newest ≡ length k.shown + length k.staged
+        → sectors ≡ entry_between (newest_of k) zone.now.records → result ≡ has_room k zone.now.records }
+{
+    let _valid = zone.apex();
+    snapshot_sectors(snapshot_len(zone)) <= own.snapshot_sectors as usize
+        && sectors <= own.journal_sectors as usize
+        && newest < u64::MAX
+}
+
 /// The change to the records of a zone's file after the version of that number, if there is room for it.
 fn with_room<I: ZoneIndex>(
+    heap: Heap,
     newest: &Zone<I>,
     number: u64,
     own: &ZoneSettings,
@@ -97,12 +111,15 @@ fn with_room<I: ZoneIndex>(
         others => return others,
     };
     let _valid = zone.apex();
-    let room = entry_sectors(change.encoded_len());
+    let Ok(entry) = PreparedEntry::new(heap, change) else {
+        return Err(DeviceFault::OutOfMemory);
+    };
+    let room = entry_sectors(entry.octets().len());
     if !has_room(number, own, zone, room) {
-        drop(change);
+        drop(entry);
         return Err(DeviceFault::NoRoom);
     }
-    Ok(Some(change))
+    Ok(Some(entry.into_change()))
 }
 
 /// The change from the newest version that the device of a zone keeps to other records, or none if it has
@@ -122,7 +139,7 @@ fn difference<D: Sectors + Drop, F: Devices<D>, I: ZoneIndex>(
             let number = store.newest();
             devices.close(&own.device, store.into_device());
             let change = change_to(heap, &newest, zone);
-            with_room(&newest, number, own, zone, change)
+            with_room(heap, &newest, number, own, zone, change)
         }
         Err(fault) => Err(fault),
     }

@@ -4,6 +4,7 @@ ghost use Rattle.dns_commands.specs.Replay.{EndsFromFresh, ReplayEnds};
 
 use crate::commands::check::Index;
 use crate::commands::check_configuration::first_too_large;
+use crate::frame::Run;
 use dns_configuration::{
     DONE, FAILED, Fault, File, REFUSED, ZoneSettings, load_all, read_configuration, settings_of,
     tell,
@@ -14,33 +15,31 @@ use dns_primary::ZoneSpec;
 use dns_replay::{Ending, ScriptDevice, replay_zones};
 use dns_sectors::{MemorySectors, Sectors};
 use dns_zone::Zone;
-use std::alloc::Global;
 use std::io::{self, Write};
 
 /// Runs a script that a file holds over zones that were loaded, and gives the exit status.
-fn run<W: Write, E: Write>(
-    heap: Heap,
+fn run_over<W: Write, E: Write>(
+    run: &mut Run<(), W, E>,
     zones: Vec<Zone<Index>, Heap>,
     known: Vec<ZoneSpec, Heap>,
     own: &[ZoneSettings],
     script: &File<'_>,
-    out: &mut W,
-    err: &mut E,
 ) -> io::Result<u8>
     requires known { length zones.items ≡ length known.items }
     requires own { length own.now ≡ length zones.items }
     ensures { IfOk result
         (EndsFromFresh ⟦<MemorySectors as Sectors>⟧ ⟦<MemorySectors as ScriptDevice>⟧.left_by
-        zones.entry.items known.entry.items own.now script.now (W.contents out.old) (W.contents out.new)
-        (E.contents err.old) (E.contents err.new)) }
+        zones.entry.items known.entry.items own.now script.now (W.contents run.old.out)
+        (W.contents run.new.out) (E.contents run.old.err) (E.contents run.new.err)) }
 {
+    let err = &mut run.err;
     let Some(lines) = script.octets else {
         return tell(err, script.path, Fault::Unreadable);
     };
     if let Some(path) = first_too_large(own, &zones) {
         return tell_device(err, path, DeviceFault::ZoneTooLarge, false);
     }
-    match replay_zones::<MemorySectors, Index, W>(heap, zones, known, lines, out) {
+    match replay_zones::<MemorySectors, Index, W>(run.heap, zones, known, lines, &mut run.out) {
         Ok(Ending::Done) => Ok(DONE),
         Ok(Ending::Syntax(line)) => tell(err, script.path, Fault::Syntax(line)),
         Ok(Ending::Refused) => Ok(REFUSED),
@@ -52,28 +51,25 @@ fn run<W: Write, E: Write>(
 
 /// Reads the files, runs the script, and gives the exit status.
 fn replayed<W: Write, E: Write>(
-    alloc: Global,
-    heap: Heap,
+    run: &mut Run<(), W, E>,
     config: &File<'_>,
     files: &[File<'_>],
     script: &File<'_>,
-    out: &mut W,
-    err: &mut E,
 ) -> io::Result<u8>
     ensures { IfOk result
         (ReplayEnds ⟦<MemorySectors as Sectors>⟧ ⟦<MemorySectors as ScriptDevice>⟧.left_by
-        config.now files.now script.now (W.contents out.old) (W.contents out.new)
-        (E.contents err.old) (E.contents err.new)) }
+        config.now files.now script.now (W.contents run.old.out) (W.contents run.new.out)
+        (E.contents run.old.err) (E.contents run.new.err)) }
 {
-    let settings = match read_configuration(alloc, heap, config) {
+    let settings = match read_configuration(run.alloc, run.heap, config) {
         Ok(configuration) => configuration.zones,
-        Err(fault) => return tell(err, config.path, fault),
+        Err(fault) => return tell(&mut run.err, config.path, fault),
     };
-    let known = settings_of(heap, &settings)?;
-    let loaded: Result<Vec<Zone<Index>, Heap>, _> = load_all(heap, files, &settings);
+    let known = settings_of(run.heap, &settings)?;
+    let loaded: Result<Vec<Zone<Index>, Heap>, _> = load_all(run.heap, files, &settings);
     match loaded {
-        Ok(zones) => run(heap, zones, known, &settings, script, out, err),
-        Err((path, fault)) => tell(err, path, fault),
+        Ok(zones) => run_over(run, zones, known, &settings, script),
+        Err((path, fault)) => tell(&mut run.err, path, fault),
     }
 }
 
@@ -84,17 +80,14 @@ fn replayed<W: Write, E: Write>(
 /// ends. Returns the exit status: `DONE`, `REFUSED`, or `FAILED` if a writer or a device failed or memory was
 /// refused.
 pub fn replay<W: Write, E: Write>(
-    alloc: Global,
-    heap: Heap,
+    run: &mut Run<(), W, E>,
     config: &File<'_>,
     files: &[File<'_>],
     script: &File<'_>,
-    out: &mut W,
-    err: &mut E,
 ) -> u8
     ensures { ReplayEnds ⟦<MemorySectors as Sectors>⟧ ⟦<MemorySectors as ScriptDevice>⟧.left_by
-        config.now files.now script.now (W.contents out.old) (W.contents out.new)
-        (E.contents err.old) (E.contents err.new) result }
+        config.now files.now script.now (W.contents run.old.out) (W.contents run.new.out)
+        (E.contents run.old.err) (E.contents run.new.err) result }
 {
-    replayed(alloc, heap, config, files, script, out, err).unwrap_or(FAILED)
+    replayed(run, config, files, script).unwrap_or(FAILED)
 }

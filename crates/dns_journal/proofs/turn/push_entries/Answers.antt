@@ -10,7 +10,7 @@ use Rattle.dns_journal.proofs.turn.push_entries.Goals as goal
 pub push_entry-requires-clause-len : goal.push_entry-requires-clause-len
 push_entry-requires-clause-len c =
     let change = c.change-item.result in
-    let octets_are : c.deref.result.now ≡ entry c.change-item.result = c.deref.ensures.value ∙ c.in_ok-octets.ensures in
+    let octets_are : c.deref.result.now ≡ entry c.change-item.result = c.deref.ensures.value ∙ c.in_ok-octets.ensures.octets in
     let room = entry_room c.args.changes.now c.loop-change.change-index change c.loop-change.next.at c.loop-change.next.until c.loop-change-test.true c.change-item.is c.loop-change.invariant.room in
     subst (λ (l : List ℕ). length l < 2 ^ 32) (sym octets_are)
     (is_short (length (entry change)) c.loop-change.next.until c.loop-change.next.at (omega (arith, c.requires.small, c.loop-change.invariant.until)) (omega (arith, room)))
@@ -18,7 +18,7 @@ push_entry-requires-clause-len c =
 pub loop-change-preserved : goal.loop-change-preserved
 loop-change-preserved c =
     let change = c.change-item.result in
-    let octets_are : c.deref.result.now ≡ entry c.change-item.result = c.deref.ensures.value ∙ c.in_ok-octets.ensures in
+    let octets_are : c.deref.result.now ≡ entry c.change-item.result = c.deref.ensures.value ∙ c.in_ok-octets.ensures.octets in
     let room = entry_room c.args.changes.now c.loop-change.change-index change c.loop-change.next.at c.loop-change.next.until c.loop-change-test.true c.change-item.is c.loop-change.invariant.room in
     let one = subst (λ (l : List ℕ). PushesEntry c.loop-change.next c.push_entry.new.next l (pairs c.loop-change.writes.items) (pairs c.push_entry.new.writes.items)) octets_are c.in_ok-push_entry.ensures.pushed in
     record {

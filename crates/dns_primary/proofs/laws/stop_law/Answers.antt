@@ -4,6 +4,6 @@ use Rattle.dns_primary.proofs.laws.stop_law.Goals as goal
 
 pub returns : goal.returns
 returns c = record {
-  left = λ m event place z content left. left_recovered (IsMaking m event place z) z content left;
+  left = λ m event index z content left. left_recovered (IsMaking m event index z) z content left;
   moved = checkpoint_recovered;
 }

@@ -5,4 +5,4 @@ pub returns-then-fell : goal.returns-then-fell
 returns-then-fell g c = (c.fell.ensures c.if-fell.true, refl, c.in_ok-print_stop.ensures)
 
 pub returns : goal.returns
-returns g c = record { place = c.args.refused.place; error = c.args.refused.error; printed = c.in_ok-print_refusal.ensures }
+returns g c = record { index = c.args.refused.index; error = c.args.refused.error; printed = c.in_ok-print_refusal.ensures }

@@ -59,6 +59,6 @@ returns-in-Flush g c =
 
 pub returns-in-Checkpoint : goal.returns-in-Checkpoint
 returns-in-Checkpoint g c =
-    let event : Event = machine.Checkpoint c.in-Checkpoint.place in
+    let event : Event = machine.Checkpoint c.in-Checkpoint.index in
     let is : commanded_by (said_command c.args.command.now) ≡ Happens event = rw (c.in-Checkpoint.is) in
     does_said g.D.ScriptDevice.left_by c.args.world.origins.now c.args.world.settings.now (commanded_by (said_command c.args.command.now)) event c.run_event-in-Checkpoint.result c.args.primary.now c.run_event-in-Checkpoint.new.primary c.args.devices.now.items c.run_event-in-Checkpoint.new.devices.items (g.W.Write.contents c.args.out.now) (g.W.Write.contents c.run_event-in-Checkpoint.new.out) is c.run_event-in-Checkpoint.ensures

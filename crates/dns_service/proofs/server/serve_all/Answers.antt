@@ -46,7 +46,7 @@ returns-in-Ok-open_primary g c =
     let ran = c.serve_as-status.ensures.run in
     let keeps : Machine → Type 0 = λ m. IsKept primary m in
     let zones = configuration.zones.items in
-    let there : (start : Machine) (run : List Moment) (x y : KeptStore _ _ g.D.Sectors) (place : ℕ) → _ = λ start run x y place h. record { later = h.later; each = h.each; before = h.before } in (
+    let there : (start : Machine) (run : List Moment) (x y : KeptStore _ _ g.D.Sectors) (index : ℕ) → _ = λ start run x y index h. record { later = h.later; each = h.each; before = h.before } in (
       _,
       called_on _ _ _ _ _ c.in-Ok-open_primary.ensures.1 (rw closed.2.0 at closed.1),
       served g.D.Sectors _ c.args.config.now configuration c.args.options before told c.serve_as-status.result c.in-Ok.ensures.held
@@ -73,13 +73,13 @@ returns g c =
     let configuration = c.in-Ok.configuration in
     let zones = configuration.zones.items in
     let calls = c.in-Err-open_primary.ensures.0 in
-    let place = c.in-Err-open_primary.refusal.place in
+    let index = c.in-Err-open_primary.refusal.index in
     let fault = c.in-Err-open_primary.refusal.fault in
     let before = texts_of g.O.Write.contents g.E.Write.contents g.W.Write.contents c.args.streams.now in
     let after : Texts = record before { log = g.E.Write.contents c.tell_refusal.new.err } in
-    let why : IsNotServed g.D.Sectors calls zones place fault = rw c.deref-2.ensures.value at c.in-Err-open_primary.ensures.2 in (
+    let why : IsNotServed g.D.Sectors calls zones index fault = rw c.deref-2.ensures.value at c.in-Err-open_primary.ensures.2 in (
       calls,
       c.in-Err-open_primary.ensures.1,
-      device_refused g.D.Sectors calls c.args.config.now configuration c.args.options place fault before after c.tell_refusal.result c.in-Ok.ensures.held why
+      device_refused g.D.Sectors calls c.args.config.now configuration c.args.options index fault before after c.tell_refusal.result c.in-Ok.ensures.held why
           (rw c.deref-in-Err-open_primary.ensures.value at c.tell_refusal.ensures),
     )

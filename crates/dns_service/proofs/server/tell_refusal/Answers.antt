@@ -9,12 +9,12 @@ use Rattle.dns_service.proofs.server.tell_refusal.Goals as goal
 pub returns-in-Some : goal.returns-in-Some
 returns-in-Some g c =
     let zones = c.args.zones.now in
-    let place = c.args.refusal.place in
+    let index = c.args.refusal.index in
     let fault = c.args.refusal.fault in
     let err = g.E.Write.contents c.args.err.now in
     let err_after = g.E.Write.contents c.tell_device.new.err in
     let path = c.deref.result.now in
     let found = c.in-Some.ensures.lookup in
-    let at : IsPathAt zones place path = rw c.deref.ensures (subst (λ (z : ZoneSettings). IsPathAt zones place (string_bytes z.device)) (sym found.1) (path_at zones place c.in-Some.own.now found.3.0)) in
-    device_told (λ (status : ℕ). IsRefusalTold zones place fault c.args.explain err err_after status) path fault c.args.explain err err_after c.tell_device.result c.tell_device.ensures
+    let at : IsPathAt zones index path = rw c.deref.ensures (subst (λ (z : ZoneSettings). IsPathAt zones index (string_bytes z.device)) (sym found.1) (path_at zones index c.in-Some.own.now found.3.0)) in
+    device_told (λ (status : ℕ). IsRefusalTold zones index fault c.args.explain err err_after status) path fault c.args.explain err err_after c.tell_device.result c.tell_device.ensures
     (inl refl) (λ one said. inr (refl, one, (path, at, said)))

@@ -5,7 +5,7 @@ use Rattle.dns_primary.specs.Machine.{Machine}
 use Rattle.dns_service.specs.Log.{zone_lines}
 use Rattle.dns_service.proofs.server.tell_zones.Given as goal
 
-abbrev pub invariant-loop-place : goal.invariant-loop-place
-invariant-loop-place g l =
+abbrev pub invariant-loop-index : goal.invariant-loop-index
+invariant-loop-index g l =
     (m : Machine) → IsKept l.fn.primary m
-    → Appends (g.E.Write.contents l.fn.err) (g.E.Write.contents l.err) (zone_lines (take l.place l.fn.origins) m.zones)
+    → Appends (g.E.Write.contents l.fn.err) (g.E.Write.contents l.err) (zone_lines (take l.index l.fn.origins) m.zones)

@@ -29,23 +29,23 @@ loop-i-preserved g c =
     record {
       as_many = search rules;
       count = search rules;
-      rest = untouched pending c.args.pending.now i c.flush_zone-failed.new.pending c.loop-i.invariant.rest;
-      newest = newest_set zones pending i c.index-zones-i.result c.index-pending-i.result c.flush_zone-failed.new.zone c.flush_zone-failed.new.pending c.flush_zone-failed.ensures.newest ∙ c.loop-i.invariant.newest;
+      rest = untouched pending c.args.pending.now i c.flush-failed.new.self c.loop-i.invariant.rest;
+      newest = newest_set zones pending i c.index-zones-i.result c.index-pending-i.result c.flush-failed.new.zone c.flush-failed.new.self c.flush-failed.ensures.newest ∙ c.loop-i.invariant.newest;
       held = λ ks each.
           let was = c.loop-i.invariant.held ks each in
           let fails = was.0 in
-          let failed = c.flush_zone-failed.result in
+          let failed = c.flush-failed.result in
           let there = get3 (λ z b k. HasVersions g.S.ZoneStore.keeps z b k) zones pending (flushed_to fails ks) i c.index-zones-i.result c.index-pending-i.result was.2 inside in
           let k = there.0 in
           let before : slice_get ks (length fails) ≡ Some k = sym (stands fails ks) ∙ subst (λ n. slice_get (flushed_to fails ks) n ≡ Some k) (sym was.1) there.1 in
           let grown : flushed_to (fails ++ failed ∷ []) ks ≡ slice_set (flushed_to fails ks) i (kept_after_flush failed k) = more fails ks failed k before ∙ ap (λ n. slice_set (flushed_to fails ks) n (kept_after_flush failed k)) was.1 in (
             fails ++ failed ∷ [],
             omega (arith, length-append fails (failed ∷ []), was.1),
-            subst (λ (l : List Kept). Each3 (λ z b k. HasVersions g.S.ZoneStore.keeps z b k) (slice_set zones i c.flush_zone-failed.new.zone) (slice_set pending i c.flush_zone-failed.new.pending) l) (sym grown)
-                (set3 (λ z b k. HasVersions g.S.ZoneStore.keeps z b k) zones pending (flushed_to fails ks) i c.flush_zone-failed.new.zone c.flush_zone-failed.new.pending (kept_after_flush failed k) was.2 (c.flush_zone-failed.ensures.held k there.2)),
+            subst (λ (l : List Kept). Each3 (λ z b k. HasVersions g.S.ZoneStore.keeps z b k) (slice_set zones i c.flush-failed.new.zone) (slice_set pending i c.flush-failed.new.self) l) (sym grown)
+                (set3 (λ z b k. HasVersions g.S.ZoneStore.keeps z b k) zones pending (flushed_to fails ks) i c.flush-failed.new.zone c.flush-failed.new.self (kept_after_flush failed k) was.2 (c.flush-failed.ensures.held k there.2)),
             c.first_failure-first.ensures fails was.3 (sym was.1),
-            fails_more (λ b. g.S.ZoneStore.failed b.store) fails c.args.pending.now pending i failed c.flush_zone-failed.new.pending c.index-pending-i.result was.1 was.4 (omega (arith, c.loop-i.invariant.count)) inside
-                (subst (λ b. IsCounted failed (g.S.ZoneStore.failed b.store) (g.S.ZoneStore.failed c.flush_zone-failed.new.pending.store)) (same_at pending c.args.pending.now i c.index-pending-i.result c.loop-i.invariant.rest) c.flush_zone-failed.ensures.failed),
+            fails_more (λ b. g.S.ZoneStore.failed b.store) fails c.args.pending.now pending i failed c.flush-failed.new.self c.index-pending-i.result was.1 was.4 (omega (arith, c.loop-i.invariant.count)) inside
+                (subst (λ b. IsCounted failed (g.S.ZoneStore.failed b.store) (g.S.ZoneStore.failed c.flush-failed.new.self.store)) (same_at pending c.args.pending.now i c.index-pending-i.result c.loop-i.invariant.rest) c.flush-failed.ensures.failed),
           );
       moments = λ ks each.
           let was = c.loop-i.invariant.held ks each in
@@ -53,12 +53,12 @@ loop-i-preserved g c =
           let there = get3 (λ z b k. HasVersions g.S.ZoneStore.keeps z b k) zones pending (flushed_to fails ks) i c.index-zones-i.result c.index-pending-i.result was.2 inside in
           let k = there.0 in
           let before : slice_get ks i ≡ Some k = subst (λ n. slice_get ks n ≡ Some k) was.1 (sym (stands fails ks) ∙ subst (λ n. slice_get (flushed_to fails ks) n ≡ Some k) (sym was.1) there.1) in
-          mid3 (λ a b k. LeavesOnly g.S.ZoneStore.moment g.S.ZoneStore.left_since a.store b.store (OpensAsLeft g.S.ZoneStore.opens k)) c.args.pending.now pending ks i c.index-pending-i.result c.flush_zone-failed.new.pending inside
+          mid3 (λ a b k. LeavesOnly g.S.ZoneStore.moment g.S.ZoneStore.left_since a.store b.store (OpensAsLeft g.S.ZoneStore.opens k)) c.args.pending.now pending ks i c.index-pending-i.result c.flush-failed.new.self inside
           (c.loop-i.invariant.moments ks each)
           (λ a x is so_far.
           let same : x ≡ k = cc (sym is ∙ before) in
-          joined g.S.ZoneStore.moment g.S.ZoneStore.left_since a.store (slice_index_or pending i c.index-pending-i.result).store c.flush_zone-failed.new.pending.store (OpensAsLeft g.S.ZoneStore.opens x) (OpensAsLeft g.S.ZoneStore.opens k)
-          so_far (c.flush_zone-failed.ensures.any_moment k there.2.kept) (λ content o. subst (λ (y : Kept). OpensAsLeft g.S.ZoneStore.opens y content) (sym same) o));
+          joined g.S.ZoneStore.moment g.S.ZoneStore.left_since a.store (slice_index_or pending i c.index-pending-i.result).store c.flush-failed.new.self.store (OpensAsLeft g.S.ZoneStore.opens x) (OpensAsLeft g.S.ZoneStore.opens k)
+          so_far (c.flush-failed.ensures.any_moment k there.2.kept) (λ content o. subst (λ (y : Kept). OpensAsLeft g.S.ZoneStore.opens y content) (sym same) o));
     }
 
 pub returns-clause-held : goal.returns-clause-held

@@ -79,7 +79,7 @@ returns-clause-welcomed g c =
               c.in-Some-watch.watched,
               c.in-Some-watch.ensures,
               inr (
-                c.in_default-insert.ensures.place,
+                c.in_default-insert.ensures.below,
                 (
                   made,
                   c.new-connection.ensures.stream,

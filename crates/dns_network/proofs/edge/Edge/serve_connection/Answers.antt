@@ -16,14 +16,14 @@ use Rattle.dns_network.proofs.edge.Edge.serve_connection.Goals as goal
 -- where there is no connection
 pub returns-then-not-is_open-clause-part : goal.returns-then-not-is_open-clause-part
 returns-then-not-is_open-clause-part g c =
-    let place = slice_get (connections_of c.args.self.now) c.args.number in
-    let closed : is_open_at place ≡ false = sym c.is_open.ensures ∙ c.if-not-is_open.true in (
+    let index = slice_get (connections_of c.args.self.now) c.args.number in
+    let closed : is_open_at index ≡ false = sym c.is_open.ensures ∙ c.if-not-is_open.true in (
       [],
       record {
         are = refl;
         closed = λ no. refl;
-        left = λ left. clashes (is_open_at place) (left_open place left) closed;
-        none_left = λ opened no. clashes (is_open_at place) opened closed;
+        left = λ left. clashes (is_open_at index) (left_open index left) closed;
+        none_left = λ opened no. clashes (is_open_at index) opened closed;
       },
       λ idle. tt,
     )
@@ -115,16 +115,16 @@ returns-then-has_left-clause-part g c =
 pub returns-then-pump-clause-part : goal.returns-then-pump-clause-part
 returns-then-pump-clause-part g c =
     let number = c.args.number in
-    let place = slice_get (connections_of c.args.self.now) number in
-    let none : has_left_at place ≡ false = sym c.has_left.ensures ∙ c.if-has_left.false in
-    let opened : is_open_at place ≡ true = sym c.is_open.ensures ∙ c.if-not-is_open.false in
+    let index = slice_get (connections_of c.args.self.now) number in
+    let none : has_left_at index ≡ false = sym c.has_left.ensures ∙ c.if-has_left.false in
+    let opened : is_open_at index ≡ true = sym c.is_open.ensures ∙ c.if-not-is_open.false in
     let new = served_by c.pump.new.turn c.pump.new.self in
     let (effects, goings, told, pumps) = c.pump.ensures.pumps c.args.now in (
       Happens (Pump number) effects goings ∷ [],
       record {
         are = (new, pumps, refl);
-        closed = λ no. clashes (is_open_at place) opened no;
-        left = λ left. clashes (has_left_at place) left none;
+        closed = λ no. clashes (is_open_at index) opened no;
+        left = λ left. clashes (has_left_at index) left none;
         none_left = λ is no. record {
           effects = effects;
           goings = goings;
@@ -142,9 +142,9 @@ returns-then-pump-clause-part g c =
 pub returns-clause-part : goal.returns-clause-part
 returns-clause-part g c =
     let number = c.args.number in
-    let place = slice_get (connections_of c.args.self.now) number in
-    let none : has_left_at place ≡ false = sym c.has_left.ensures ∙ c.if-has_left.false in
-    let opened : is_open_at place ≡ true = sym c.is_open.ensures ∙ c.if-not-is_open.false in
+    let index = slice_get (connections_of c.args.self.now) number in
+    let none : has_left_at index ≡ false = sym c.has_left.ensures ∙ c.if-has_left.false in
+    let opened : is_open_at index ≡ true = sym c.is_open.ensures ∙ c.if-not-is_open.false in
     let mid = served_by c.pump.new.turn c.pump.new.self in
     let (effects, goings, told, pumps) = c.pump.ensures.pumps c.args.now in
     let (rest, reading, idle) = c.read_piece.ensures.reads in
@@ -152,8 +152,8 @@ returns-clause-part g c =
       Happens (Pump number) effects goings ∷ rest,
       record {
         are = (mid, pumps, reading.are);
-        closed = λ no. clashes (is_open_at place) opened no;
-        left = λ left. clashes (has_left_at place) left none;
+        closed = λ no. clashes (is_open_at index) opened no;
+        left = λ left. clashes (has_left_at index) left none;
         none_left = λ is no. record {
           effects = effects;
           goings = goings;

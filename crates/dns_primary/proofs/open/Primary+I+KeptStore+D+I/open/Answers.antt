@@ -68,24 +68,24 @@ pub returns-in-Err-clause-recovered : goal.returns-in-Err-clause-recovered
 returns-in-Err-clause-recovered g c m event tries is =
     let s = g.D.Sectors in
     let back = c.open_all.new.devices.items in
-    let refused = subst (λ (l : List ZoneSpec). AreRefused s c.in-Err.refusal.error c.in-Err.refusal.place c.args.apexes.now l c.args.devices.items back) c.deref.ensures.value c.in-Err.ensures in
-    let held = refused_held IsSet s m event tries g.met.D.Sectors.counts_now g.met.D.Sectors.only_now c.in-Err.refusal.error c.in-Err.refusal.place m.zones c.args.apexes.now c.args.settings.items c.args.devices.items back is refused in
+    let refused = subst (λ (l : List ZoneSpec). AreRefused s c.in-Err.refusal.error c.in-Err.refusal.index c.args.apexes.now l c.args.devices.items back) c.deref.ensures.value c.in-Err.ensures in
+    let held = refused_held IsSet s m event tries g.met.D.Sectors.counts_now g.met.D.Sectors.only_now c.in-Err.refusal.error c.in-Err.refusal.index m.zones c.args.apexes.now c.args.settings.items c.args.devices.items back is refused in
     (held.recoverable, held.stopped)
 
 pub returns-in-Err-clause-configured : goal.returns-in-Err-clause-configured
 returns-in-Err-clause-configured g c m event tries is =
     let s = g.D.Sectors in
     let back = c.open_all.new.devices.items in
-    let refused = subst (λ (l : List ZoneSpec). AreRefused s c.in-Err.refusal.error c.in-Err.refusal.place c.args.apexes.now l c.args.devices.items back) c.deref.ensures.value c.in-Err.ensures in
-    let held = refused_held AnySettings s m event tries g.met.D.Sectors.counts_now g.met.D.Sectors.only_now c.in-Err.refusal.error c.in-Err.refusal.place m.zones c.args.apexes.now c.args.settings.items c.args.devices.items back is refused in
+    let refused = subst (λ (l : List ZoneSpec). AreRefused s c.in-Err.refusal.error c.in-Err.refusal.index c.args.apexes.now l c.args.devices.items back) c.deref.ensures.value c.in-Err.ensures in
+    let held = refused_held AnySettings s m event tries g.met.D.Sectors.counts_now g.met.D.Sectors.only_now c.in-Err.refusal.error c.in-Err.refusal.index m.zones c.args.apexes.now c.args.settings.items c.args.devices.items back is refused in
     (held.recoverable, held.stopped)
 
 pub returns-in-Err-clause-any_moment : goal.returns-in-Err-clause-any_moment
 returns-in-Err-clause-any_moment g c m event tries is =
     let s = g.D.Sectors in
     let back = c.open_all.new.devices.items in
-    let refused = subst (λ (l : List ZoneSpec). AreRefused s c.in-Err.refusal.error c.in-Err.refusal.place c.args.apexes.now l c.args.devices.items back) c.deref.ensures.value c.in-Err.ensures in
-    (refused_held AnySettings s m event tries g.met.D.Sectors.counts_now g.met.D.Sectors.only_now c.in-Err.refusal.error c.in-Err.refusal.place m.zones c.args.apexes.now c.args.settings.items c.args.devices.items back is refused).left
+    let refused = subst (λ (l : List ZoneSpec). AreRefused s c.in-Err.refusal.error c.in-Err.refusal.index c.args.apexes.now l c.args.devices.items back) c.deref.ensures.value c.in-Err.ensures in
+    (refused_held AnySettings s m event tries g.met.D.Sectors.counts_now g.met.D.Sectors.only_now c.in-Err.refusal.error c.in-Err.refusal.index m.zones c.args.apexes.now c.args.settings.items c.args.devices.items back is refused).left
 
 pub returns-in-Ok-open_all-clause-count : goal.returns-in-Ok-open_all-clause-count
 returns-in-Ok-open_all-clause-count g c =

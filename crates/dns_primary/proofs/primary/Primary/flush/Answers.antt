@@ -21,25 +21,25 @@ returns-clause-step g c old kept =
     let a = c.deref_mut.ensures.value in
     let b = c.deref_mut-2.ensures.value in
     let given = moved3 (sym a) (sym b) (map kept_of old.zones) (λ z b k. HasVersions g.S.ZoneStore.keeps z b k) kept.zones_are in
-    let done = c.flush-failed.ensures.flushed old given kept.waiting_are in
+    let done = c.flush_zones-failed.ensures.flushed old given kept.waiting_are in
     let fails = done.0 in
-    let z = refilled zones.len c.flush-failed.new.zones zones.items (omega (arith, c.flush-failed.auto.zones, ap length a, zones.ok)) in
-    let y = refilled pending.len c.flush-failed.new.pending pending.items (omega (arith, c.flush-failed.auto.pending, ap length b, pending.ok)) in
+    let z = refilled zones.len c.flush_zones-failed.new.zones zones.items (omega (arith, c.flush_zones-failed.auto.zones, ap length a, zones.ok)) in
+    let y = refilled pending.len c.flush_zones-failed.new.pending pending.items (omega (arith, c.flush_zones-failed.auto.pending, ap length b, pending.ok)) in
     record {
       fails = fails;
       failed = failed_at (λ b. g.S.ZoneStore.failed b.store) fails b (sym y) done.2;
-      any_moment = moved3 b (sym y) (map kept_of old.zones) (λ a b k. LeavesOnly g.S.ZoneStore.moment g.S.ZoneStore.left_since a.store b.store (OpensAsLeft g.S.ZoneStore.opens k)) (c.flush-failed.ensures.any_moment (map kept_of old.zones) given);
+      any_moment = moved3 b (sym y) (map kept_of old.zones) (λ a b k. LeavesOnly g.S.ZoneStore.moment g.S.ZoneStore.left_since a.store b.store (OpensAsLeft g.S.ZoneStore.opens k)) (c.flush_zones-failed.ensures.any_moment (map kept_of old.zones) given);
       next = flushed fails old;
       stated = record { sent = flush_sends fails old; accepted = None; noted = noted_of (first_true fails) };
       is = (done.1, record { state = refl; sent = refl; accepted = refl; noted = refl });
-      effects_are = record { sent = sym done.4 ∙ sym (append-nil (map header_out c.flush-failed.new.headers.items)); told = done.5; accepted = refl; noted = sym (c.noted.ensures.value ∙ ap noted_of done.6) };
+      effects_are = record { sent = sym done.4 ∙ sym (append-nil (map header_out c.flush_zones-failed.new.headers.items)); told = done.5; accepted = refl; noted = sym (c.noted.ensures.value ∙ ap noted_of done.6) };
       kept = record {
         zones_are = moved3 (sym z) (sym y) (map kept_of (flushed fails old).zones) (λ z b k. HasVersions g.S.ZoneStore.keeps z b k) done.3;
         settings_are = flushed_settings c.args.self.now.settings.items fails old.zones kept.settings_are;
         connections_are = kept.connections_are;
         transfers_are = kept.transfers_are;
         as_many = kept.as_many;
-        waiting_are = subst (λ (l : List Waiting). Each2 IsWaiting l (flushed fails old).waiting) (sym c.flush-failed.ensures.empty) tt;
+        waiting_are = subst (λ (l : List Waiting). Each2 IsWaiting l (flushed fails old).waiting) (sym c.flush_zones-failed.ensures.empty) tt;
       };
     }
 
@@ -49,6 +49,6 @@ returns-clause-newest g c =
     let pending = c.args.self.now.pending in
     let a = c.deref_mut.ensures.value in
     let b = c.deref_mut-2.ensures.value in
-    let z = refilled zones.len c.flush-failed.new.zones zones.items (omega (arith, c.flush-failed.auto.zones, ap length a, zones.ok)) in
-    let y = refilled pending.len c.flush-failed.new.pending pending.items (omega (arith, c.flush-failed.auto.pending, ap length b, pending.ok)) in
-    (λ i. newest_each (z i) (y i)) ∙ c.flush-failed.ensures.newest ∙ (λ i. newest_each (a i) (b i))
+    let z = refilled zones.len c.flush_zones-failed.new.zones zones.items (omega (arith, c.flush_zones-failed.auto.zones, ap length a, zones.ok)) in
+    let y = refilled pending.len c.flush_zones-failed.new.pending pending.items (omega (arith, c.flush_zones-failed.auto.pending, ap length b, pending.ok)) in
+    (λ i. newest_each (z i) (y i)) ∙ c.flush_zones-failed.ensures.newest ∙ (λ i. newest_each (a i) (b i))

@@ -14,14 +14,14 @@ returns-in-Some g c m kept =
     let h = c.in-Some.ensures.lookup in
     let self = c.args.self.now in
     let long = long3_first (λ z b k. HasVersions g.S.ZoneStore.keeps z b k) self.zones.items self.pending.items (map kept_of m.zones) kept.zones_are in
-    let inside : c.args.place < length m.zones = omega (arith, h.3.0, ap length c.deref.ensures.value, long, length-map m.zones kept_of) in
-    shown_at g.S.ZoneStore.keeps self.zones.items self.pending.items m.zones c.args.place c.in-Some.zone.now c.index.result.now kept.zones_are inside
-    (h.1 ∙ ap (λ l. slice_index_or l c.args.place c.in-Some.zone.now) c.deref.ensures.value) c.index.ensures
+    let inside : c.args.index < length m.zones = omega (arith, h.3.0, ap length c.deref.ensures.value, long, length-map m.zones kept_of) in
+    shown_at g.S.ZoneStore.keeps self.zones.items self.pending.items m.zones c.args.index c.in-Some.zone.now c.index.result.now kept.zones_are inside
+    (h.1 ∙ ap (λ l. slice_index_or l c.args.index c.in-Some.zone.now) c.deref.ensures.value) c.index.ensures
 
 pub returns-in-None : goal.returns-in-None
 returns-in-None g c m kept =
     let h = c.in-None.ensures.lookup in
     let self = c.args.self.now in
     let long = long3_first (λ z b k. HasVersions g.S.ZoneStore.keeps z b k) self.zones.items self.pending.items (map kept_of m.zones) kept.zones_are in
-    let past : length m.zones ≤ c.args.place = omega (arith, h.3, ap length c.deref.ensures.value, long, length-map m.zones kept_of) in
-    slice_get_past m.zones c.args.place past
+    let past : length m.zones ≤ c.args.index = omega (arith, h.3, ap length c.deref.ensures.value, long, length-map m.zones kept_of) in
+    slice_get_past m.zones c.args.index past

@@ -1,4 +1,4 @@
-use Rattle.std.proofs.Common.{rules, arith, ◌≡◌, true, false, sym, ◌∙◌, ap, subst, refl, inl, inr, ⊎_elim, Err, length, ◌++◌, ◌∷◌, [], List}
+use Rattle.std.proofs.Common.{rules, arith, ◌≡◌, true, false, sym, ◌∙◌, ap, subst, refl, inl, inr, ⊎_elim, Err, length, ◌++◌, ◌∷◌, [], ℕ, List}
 use Rattle.std.proofs.lemmas.Result.{err_from_is_err_and}
 use Rattle.dns_changes.specs.Change.{Change}
 use Rattle.dns_changes.specs.Entry.{entry}
@@ -77,7 +77,7 @@ returns-in-Ok-clause-fits g c k kept = omega (arith, c.in-Ok.ensures.fits, left_
 pub returns-then-sectors-left-clause-full : goal.returns-then-sectors-left-clause-full
 returns-then-sectors-left-clause-full g c k kept =
     let working : k.closed ≡ false = sym (closed_is c.args.self.now.journal k k.closed kept.keeps) ∙ sym c.is_closed.ensures ∙ c.if-is_closed.false in
-    let size : c.entry_sectors-sectors.result ≡ entry_sectors (length (entry c.args.change)) = c.entry_sectors-sectors.ensures ∙ ap entry_sectors c.encoded_len.ensures.octets in
+    let size : c.entry_sectors-sectors.result ≡ entry_sectors (length (entry c.args.change)) = c.entry_sectors-sectors.ensures ∙ ap (λ (l : List ℕ). entry_sectors (length l)) c.octets.ensures.octets in
     (λ _. (working, inr (omega (arith, size, left_keeps c.args.self.now.journal k k.closed kept.keeps, c.left.ensures.left, c.if-sectors-left.true))), λ _. refl)
 
 pub returns-then-sectors-left-clause-closed : goal.returns-then-sectors-left-clause-closed
@@ -87,7 +87,7 @@ returns-then-sectors-left-clause-closed g c k kept =
 
 pub returns-in_err-map_err-clause-full : goal.returns-in_err-map_err-clause-full
 returns-in_err-map_err-clause-full g c k kept =
-    let size : c.entry_sectors-sectors.result ≡ entry_sectors (length (entry c.args.change)) = c.entry_sectors-sectors.ensures ∙ ap entry_sectors c.encoded_len.ensures.octets in
+    let size : c.entry_sectors-sectors.result ≡ entry_sectors (length (entry c.args.change)) = c.entry_sectors-sectors.ensures ∙ ap (λ (l : List ℕ). entry_sectors (length l)) c.octets.ensures.octets in
     let p = err_from_is_err_and c.from_residual.result c.from_residual.ensures.1 in (
       λ is. absurd (let other : Err p.0 ≡ Err StageError.Full = sym p.1 ∙ is in let one = p.2 in cc),
       λ both. absurd (⊎_elim (λ last. omega (arith, last, number_keeps c.args.self.now.journal k k.closed kept.keeps, c.newest.ensures, c.if-newest-eq18446744073709551615.false))
