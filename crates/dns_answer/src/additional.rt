@@ -39,16 +39,16 @@ fn is_same(shown: &ReplyRecord<'_>, stored: &Record) -> bool
 
 /// Whether a record goes out already. The position, after the record that was found last, is where it is
 /// looked for first.
-fn is_among(shown: &[ReplyRecord<'_>], stored: &Record, place: &mut usize) -> bool
+fn is_among(shown: &[ReplyRecord<'_>], stored: &Record, position: &mut usize) -> bool
     ensures { result ≡ list_any (same stored.now) shown.now }
 {
-    if *place < shown.len() && is_same(&shown[*place], stored) {
-        *place += 1;
+    if *position < shown.len() && is_same(&shown[*position], stored) {
+        *position += 1;
         return true;
     }
     for (at, one) in shown.iter().enumerate() {
         if is_same(one, stored) {
-            *place = at + 1;
+            *position = at + 1;
             return true;
         }
     }
@@ -100,12 +100,12 @@ impl<'a> Sections<'a> {
 
     /// Appends a record to the others, unless it is in the reply already: this is checked at the position
     /// before others are looked at.
-    fn push_record(&mut self, stored: &'a Record, place: &mut usize) -> Result<(), AllocError>
+    fn push_record(&mut self, stored: &'a Record, position: &mut usize) -> Result<(), AllocError>
         ensures { OnOk result (AddsUnseen self.old self.new (stored.now ∷ [])) }
     {
-        if is_among(self.answer.as_slice(), stored, place)
-            || is_among(self.authority.as_slice(), stored, place)
-            || is_among(self.additional.as_slice(), stored, place)
+        if is_among(self.answer.as_slice(), stored, position)
+            || is_among(self.authority.as_slice(), stored, position)
+            || is_among(self.additional.as_slice(), stored, position)
         {
             return Ok(());
         }
@@ -119,12 +119,12 @@ impl<'a> Sections<'a> {
     fn push_records(&mut self, records: &'a [Record], most: u16) -> Result<(), AllocError>
         ensures { OnOk result (AddsUpTo most self.old self.new records.now) }
     {
-        let mut place = 0;
+        let mut position = 0;
         for stored in records {
             if self.has_more(most) {
                 return Ok(());
             }
-            self.push_record(stored, &mut place)?;
+            self.push_record(stored, &mut position)?;
         }
         Ok(())
     }

@@ -186,8 +186,8 @@ fn soa<'a, I: ZoneIndex>(zone: &'a Zone<I>) -> &'a Record
 {
     let _valid = zone.apex();
     let first = zone.index().run_from(0);
-    let place = first.partition_point(|r| r.rtype() < types::SOA);
-    match first.get(place) {
+    let position = first.partition_point(|r| r.rtype() < types::SOA);
+    match first.get(position) {
         Some(record) if record.rtype() == types::SOA => record,
         _ => zone.soa(),
     }

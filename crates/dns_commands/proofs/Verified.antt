@@ -140,7 +140,7 @@ untested g own old mid new error first quiet then failed (inl is) = record {
   stopped = λ honest range o opens. inl is;
   refused = λ honest. subst (λ e. OpenRefusal (sizes_of (own_shape own)) (g.count old) (sector_at (g.seen old) 0) e) (sym is) tt;
   damaged = λ honest. subst (λ e. NamesWrong (own_shape own) (g.seen old) e) (sym is) tt;
-  not_own = λ honest range place read spoilt. inl is;
+  not_own = λ honest range position read spoilt. inl is;
   altered = λ honest range c o opens altered. inl (inl is);
 }
 untested g own old mid new error first quiet then failed (inr is) = record {
@@ -149,7 +149,7 @@ untested g own old mid new error first quiet then failed (inr is) = record {
   stopped = λ honest range o opens. inr (inl is);
   refused = λ honest. subst (λ e. OpenRefusal (sizes_of (own_shape own)) (g.count old) (sector_at (g.seen old) 0) e) (sym is) tt;
   damaged = λ honest. subst (λ e. NamesWrong (own_shape own) (g.seen old) e) (sym is) tt;
-  not_own = λ honest range place read spoilt. inr (inl is);
+  not_own = λ honest range position read spoilt. inr (inl is);
   altered = λ honest range c o opens altered. inl (inr (inl is));
 }
 

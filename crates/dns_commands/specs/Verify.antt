@@ -95,7 +95,7 @@ pub record IsUnwell {D : Type 0} (g : Ghosts D) (own : ZoneSettings) (device bac
   pub refused : g.is_honest device
       → OpenRefusal (sizes_of (own_shape own)) (g.count device) (sector_at (g.seen device) 0) error
   pub damaged : g.is_honest device → NamesWrong (own_shape own) (g.seen device) error
-  pub not_own : OfSpoilt g (own_shape own) device (λ place. NamesSector place error)
+  pub not_own : OfSpoilt g (own_shape own) device (λ position. NamesSector position error)
   pub altered : OfAltered g (own_shape own) device
       (λ c o. IsNotReopened o.openings error ⊎ NamesAltered c (g.seen device) error)
 
@@ -163,7 +163,7 @@ printed_of own (Err fault) = []
 
 -- What is reported: each sector that was found so, or the error, unless memory was refused.
 abbrev pub spoilt_text : List ℕ → Bool → ℕ → List ℕ
-spoilt_text path explain place = line (device_text path (Damaged place) explain)
+spoilt_text path explain position = line (device_text path (Damaged position) explain)
 
 abbrev pub reported_of : Bool → ZoneSettings → Finding → List ℕ
 reported_of explain own (Ok found) =
@@ -179,7 +179,7 @@ told_of text _ _ = []
 -- The exit status of one.
 abbrev pub spoilt_status : List ℕ → ℕ
 spoilt_status [] = 0
-spoilt_status (place ∷ places) = 1
+spoilt_status (position ∷ places) = 1
 
 abbrev pub finding_status : Finding → ℕ
 finding_status (Ok found) = spoilt_status found.spoilt.items

@@ -22,14 +22,14 @@ use std::io::{self, Write};
 /// positions in the file.
 #[derive(Clone, Copy)]
 struct Clash {
-    place: usize,
+    position: usize,
     earlier: Option<usize>,
 }
 
 /// The record at a position, if there is one.
-fn at(place: Option<usize>) -> Option<Clash> {
+fn at(position: Option<usize>) -> Option<Clash> {
     Some(Clash {
-        place: place?,
+        position: position?,
         earlier: None,
     })
 }
@@ -51,7 +51,7 @@ fn second_soa(records: &[Record]) -> Option<Clash> {
         .iter()
         .position(|r| r.rtype() == SOA)?;
     Some(Clash {
-        place: earlier + 1 + later,
+        position: earlier + 1 + later,
         earlier: Some(earlier),
     })
 }
@@ -71,18 +71,18 @@ fn first_pair(
     records: &[Record],
 ) -> Result<Option<Clash>, AllocError> {
     let mut index = Index::empty(heap)?;
-    for place in 0..records.len() {
-        let later = &records[place];
+    for position in 0..records.len() {
+        let later = &records[position];
         let owner = later.owner().lend();
         let beside = index.records_at(&owner);
         if beside
             .iter()
             .any(|earlier| are_at_odds(error, earlier, later))
         {
-            let earlier = records[..place].iter().position(|earlier| {
+            let earlier = records[..position].iter().position(|earlier| {
                 earlier.owner().lend().is(&owner) && are_at_odds(error, earlier, later)
             });
-            return Ok(Some(Clash { place, earlier }));
+            return Ok(Some(Clash { position, earlier }));
         }
         index.insert(later.clone()?)?;
     }
@@ -114,8 +114,8 @@ fn explain_clash<E: Write>(
     error: ZoneError,
 ) -> io::Result<()> {
     let (Some(record), Some(line)) = (
-        places.records.get(clash.place),
-        places.lines.get(clash.place),
+        places.records.get(clash.position),
+        places.lines.get(clash.position),
     ) else {
         return Ok(());
     };

@@ -27,9 +27,9 @@ fn take_zone(zones: Vec<ZoneSettings>, name: &Name) -> Option<ZoneSettings>
     ensures { result ≡ zone_configured name.now zones.items }
 {
     let mut zones = zones;
-    for place in 0..zones.len() {
-        if zones[place].origin == *name {
-            return Some(zones.swap_remove(place));
+    for position in 0..zones.len() {
+        if zones[position].origin == *name {
+            return Some(zones.swap_remove(position));
         }
     }
     None

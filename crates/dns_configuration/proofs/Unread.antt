@@ -42,11 +42,11 @@ zip_length f R [] (y ∷ ys) h = absurd h
 zip_length f R (x ∷ xs) [] h = absurd h
 zip_length f R (x ∷ xs) (y ∷ ys) h = ap suc (zip_length f R xs ys h.1)
 
-place : {A B C : Type 0} (f : A → B) (R : B → C → Type 0) (xs : List A) (i : ℕ) (d : A) (ys : List C) (e : C) → i < length xs → AllZip R (map f xs) ys → R (f (get_or xs i d)) (get_or ys i e)
-place f R [] i d ys e small h = absurd (omega (arith, small))
-place f R (x ∷ xs) i d [] e small h = absurd h
-place f R (x ∷ xs) zero d (y ∷ ys) e small h = h.0
-place f R (x ∷ xs) (suc i) d (y ∷ ys) e small h = place f R xs i d ys e (omega (arith, small)) h.1
+position : {A B C : Type 0} (f : A → B) (R : B → C → Type 0) (xs : List A) (i : ℕ) (d : A) (ys : List C) (e : C) → i < length xs → AllZip R (map f xs) ys → R (f (get_or xs i d)) (get_or ys i e)
+position f R [] i d ys e small h = absurd (omega (arith, small))
+position f R (x ∷ xs) i d [] e small h = absurd h
+position f R (x ∷ xs) zero d (y ∷ ys) e small h = h.0
+position f R (x ∷ xs) (suc i) d (y ∷ ys) e small h = position f R xs i d ys e (omega (arith, small)) h.1
 
 -- A table has so many keys.
 pub keys_of_table : (d : Data) (xs : List (String Global × Value)) (n count : ℕ) → Some (members_view xs) ≡ as_table d → n ≡ length xs → nat_eq n count ≡ has_keys count d
@@ -156,10 +156,10 @@ never_apart tables i one zs ws z inside each is double h =
     let other = found.1 in
     let short : length zs ≡ length (take i tables) = zip_length view IsSettings (take i tables) zs each in
     let below : k < i = omega (arith, found.2, short, inside, length-take i tables) in
-    let first = place view IsSettings (take i tables) k one zs other (omega (arith, short, found.2)) each in
+    let first = position view IsSettings (take i tables) k one zs other (omega (arith, short, found.2)) each in
     let here : IsSettings (view (get_or tables k one)) other = subst (λ (x : ZoneSettings). IsSettings (view (get_or tables k one)) x) found.3 (subst (λ (v : Value). IsSettings (view v) (get_or zs k other)) (get_or-take i tables k one below) first) in
-    let there = place view IsSettings tables k one ws z (omega (arith, below, inside)) h.each in
-    let last = place view IsSettings tables i one ws z inside h.each in
+    let there = position view IsSettings tables k one ws z (omega (arith, below, inside)) h.each in
+    let last = position view IsSettings tables i one ws z inside h.each in
     let former = same_zone (view (get_or tables k one)) other (get_or ws k z) here there in
     let latter = same_zone (view (get_or tables i one)) z (get_or ws i z) is last in
     let alike = alike_too other z (get_or ws k z) (get_or ws i z) former.0 former.1 latter.0 latter.1 in

@@ -117,9 +117,9 @@ fn unknown_key<'v>(table: &'v Value, keys: &[(&'static str, Expected)]) -> Optio
 }
 
 /// Tells which key of a table is unknown, and its line if that is found.
-fn tell_unknown<E: Write>(place: Place<'_>, key: &str, err: &mut E) -> io::Result<()> {
-    let (what, name) = (place.what(), PrintedWord(key.as_bytes()));
-    match line_of_key(place.octets, place.number, key.as_bytes()) {
+fn tell_unknown<E: Write>(position: Place<'_>, key: &str, err: &mut E) -> io::Result<()> {
+    let (what, name) = (position.what(), PrintedWord(key.as_bytes()));
+    match line_of_key(position.octets, position.number, key.as_bytes()) {
         Some(line) => writeln!(err, "{what}: unknown key `{name}`, line {line}"),
         None => writeln!(err, "{what}: unknown key `{name}`"),
     }
@@ -171,15 +171,15 @@ fn tell_addresses<E: Write>(texts: &[Value], err: &mut E) -> io::Result<()> {
 
 /// Tells what is expected at a key of a table that is missing or wrong.
 fn tell_key<E: Write>(
-    place: Place<'_>,
+    position: Place<'_>,
     table: &Value,
     key: &str,
     expected: Expected,
     err: &mut E,
 ) -> io::Result<()> {
-    match place.number {
-        0 => write!(err, "{}: {key}: ", place.what())?,
-        number => write!(err, "{}: zone {number}: {key}: ", place.what())?,
+    match position.number {
+        0 => write!(err, "{}: {key}: ", position.what())?,
+        number => write!(err, "{}: zone {number}: {key}: ", position.what())?,
     }
     match expected {
         Expected::Addresses => match list_at(table, key) {
@@ -204,17 +204,17 @@ fn tell_key<E: Write>(
 fn explain_keys<E: Write>(
     alloc: Global,
     heap: Heap,
-    place: Place<'_>,
+    position: Place<'_>,
     table: &Value,
     keys: &[(&'static str, Expected)],
     err: &mut E,
 ) -> io::Result<bool> {
     if let Some(key) = unknown_key(table, keys) {
-        tell_unknown(place, key, err)?;
+        tell_unknown(position, key, err)?;
         return Ok(true);
     }
     if let Some((key, expected)) = wrong_key(alloc, heap, table, keys) {
-        tell_key(place, table, key, expected, err)?;
+        tell_key(position, table, key, expected, err)?;
         return Ok(true);
     }
     Ok(false)
@@ -230,29 +230,29 @@ fn explain_document<E: Write>(
     alloc: Global,
     heap: Heap,
     document: &Value,
-    place: Place<'_>,
+    position: Place<'_>,
     err: &mut E,
 ) -> io::Result<()> {
-    let mut place = place;
+    let mut position = position;
     if let (Some(Value::Table(_)), Some(line)) = (
         document.get("zone"),
-        line_of_single_zone(place.octets),
+        line_of_single_zone(position.octets),
     ) {
-        return tell_single(&place.what(), line, err);
+        return tell_single(&position.what(), line, err);
     }
-    if explain_keys(alloc, heap, place, document, &KEYS, err)? {
+    if explain_keys(alloc, heap, position, document, &KEYS, err)? {
         return Ok(());
     }
     let Some(zones) = list_at(document, "zone") else {
         return Ok(());
     };
     for zone in zones {
-        place.number = place.number.saturating_add(1);
-        if explain_keys(alloc, heap, place, zone, &KEYS_OF_ZONE, err)? {
+        position.number = position.number.saturating_add(1);
+        if explain_keys(alloc, heap, position, zone, &KEYS_OF_ZONE, err)? {
             return Ok(());
         }
     }
-    explain_zones(alloc, heap, &place.what(), zones.as_slice(), err)
+    explain_zones(alloc, heap, &position.what(), zones.as_slice(), err)
 }
 
 /// Tells what is wrong with a text that is no TOML.
@@ -288,12 +288,12 @@ pub fn explain_configuration<E: Write>(
     };
     match toml::table_from_str(alloc, text) {
         Ok(table) => {
-            let place = Place {
+            let position = Place {
                 path: file.path,
                 octets,
                 number: 0,
             };
-            explain_document(alloc, heap, &Value::Table(table), place, err)
+            explain_document(alloc, heap, &Value::Table(table), position, err)
         }
         Err(error) => explain_text(octets, &what, &error, err),
     }

@@ -83,9 +83,9 @@ pub(crate) fn is_zone_header(octets: &[u8], line: usize) -> bool {
 }
 
 /// The line that an octet is on, the first being 1.
-pub(crate) fn line_of(octets: &[u8], place: usize) -> usize {
+pub(crate) fn line_of(octets: &[u8], position: usize) -> usize {
     let mut line = 1usize;
-    for octet in octets.iter().take(place) {
+    for octet in octets.iter().take(position) {
         if *octet == b'\n' {
             line = line.saturating_add(1);
         }

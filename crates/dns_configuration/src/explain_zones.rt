@@ -35,12 +35,12 @@ fn first_alike(
     zones: &[Value],
     zone: &Value,
 ) -> Option<(usize, &'static str)> {
-    for (place, other) in zones.iter().enumerate() {
+    for (position, other) in zones.iter().enumerate() {
         if have_one_origin(heap, other, zone) {
-            return Some((place, "origin"));
+            return Some((position, "origin"));
         }
         if have_one_device(alloc, other, zone) {
-            return Some((place, "device"));
+            return Some((position, "device"));
         }
     }
     None
@@ -54,10 +54,10 @@ fn tell_alike<E: Write>(
     zones: &[Value],
     err: &mut E,
 ) -> io::Result<bool> {
-    for (place, zone) in zones.iter().enumerate().take(MOST_ZONES) {
-        let before = zones.get(..place).unwrap_or(&[]);
+    for (position, zone) in zones.iter().enumerate().take(MOST_ZONES) {
+        let before = zones.get(..position).unwrap_or(&[]);
         if let Some((earlier, key)) = first_alike(alloc, heap, before, zone) {
-            let (first, second) = (earlier.saturating_add(1), place.saturating_add(1));
+            let (first, second) = (earlier.saturating_add(1), position.saturating_add(1));
             let value = PrintedWord(text_at(zone, key).unwrap_or("").as_bytes());
             writeln!(
                 err,

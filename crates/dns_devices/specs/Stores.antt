@@ -111,7 +111,7 @@ pub record CannotBeOpened {D : Type 0} (g : Ghosts D) (calls : List (DeviceCall 
   pub refused : g.is_honest device
       → OpenRefusal (sizes_of (own_shape own)) (g.count device) (sector_at (g.seen device) 0) error
   pub damaged : g.is_honest device → NamesWrong (own_shape own) (g.seen device) error
-  pub not_own : OfSpoilt g (own_shape own) device (λ place. NamesSector place error)
+  pub not_own : OfSpoilt g (own_shape own) device (λ position. NamesSector position error)
   pub altered : OfAltered g (own_shape own) device
       (λ c o. IsNotReopened o.openings error ⊎ NamesAltered c (g.seen device) error)
   pub any_moment : g.is_honest device

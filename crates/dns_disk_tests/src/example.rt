@@ -119,8 +119,8 @@ pub(crate) const ROOT: &[u8] = b"DPR1\0\0\0\0\0\0\0\x01\0\0\0\0\0\0\0\0\0\0\0\0\
 /// Puts the octets into a sector from a place on; those that go beyond its end are left out.
 pub(crate) fn fill(sector: &mut Sector, from: usize, octets: &[u8]) {
     for (i, octet) in octets.iter().enumerate() {
-        if let Some(place) = sector.get_mut(from.saturating_add(i)) {
-            *place = *octet;
+        if let Some(position) = sector.get_mut(from.saturating_add(i)) {
+            *position = *octet;
         }
     }
 }

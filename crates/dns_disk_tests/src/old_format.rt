@@ -142,8 +142,8 @@ pub(crate) fn updated(heap: Heap, plan: Rc<Plan, Heap>, open_count: u64) -> Opti
 }
 
 /// Puts the entry of a text of the example after the others.
-fn push(heap: Heap, held: &mut Held, place: usize) -> Option<()> {
-    let (serial, text) = *TEXTS.get(place)?;
+fn push(heap: Heap, held: &mut Held, position: usize) -> Option<()> {
+    let (serial, text) = *TEXTS.get(position)?;
     let mut entry = Vec::new(heap);
     EXAMPLE.push_entry(&mut entry, serial, text, false)?;
     held.entries.push(entry).ok()
@@ -160,8 +160,8 @@ fn later(heap: Heap) -> Option<Held> {
     *held.snapshot.get_mut(EXAMPLE.soa.1.checked_sub(17)?)? = 9;
     push_text(&mut held.snapshot, TEXTS[0].1)?;
     push_text(&mut held.snapshot, TEXTS[1].1)?;
-    for place in 2..5 {
-        push(heap, &mut held, place)?;
+    for position in 2..5 {
+        push(heap, &mut held, position)?;
     }
     Some(held)
 }
@@ -169,8 +169,8 @@ fn later(heap: Heap) -> Option<Held> {
 /// The device of the example after that.
 pub(crate) fn with_checkpoint(heap: Heap) -> Option<Device> {
     let mut held = Held::loaded(heap, &EXAMPLE, 1)?;
-    for place in 0..4 {
-        push(heap, &mut held, place)?;
+    for position in 0..4 {
+        push(heap, &mut held, position)?;
     }
     let mut device = held.device(heap, plan(heap)?)?;
     later(heap)?.write(heap, &mut device)?;

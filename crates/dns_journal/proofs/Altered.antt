@@ -67,7 +67,7 @@ own_append (x ∷ xs) ys left right = (left.0, own_append xs ys left.1 right)
 -- a wider range
 pub spoilt_within : (f : Format) (d : Content) (low from until high : ℕ) (e : ReadError) → low ≤ from → until ≤ high → NamesSpoilt f d from until e → NamesSpoilt f d low high e
 spoilt_within f d low from until high Device a b s = tt
-spoilt_within f d low from until high (Damaged place) a b s = record { first = omega (arith, a, s.first); last = omega (arith, b, s.last); spoilt = s.spoilt }
+spoilt_within f d low from until high (Damaged position) a b s = record { first = omega (arith, a, s.first); last = omega (arith, b, s.last); spoilt = s.spoilt }
 spoilt_within f d low from until high OutOfMemory a b s = tt
 
 -- the same of one content and another that is equal
@@ -94,12 +94,12 @@ bank_intact f s k c root parts opens at from to =
 pub first_spoilt : (f : Format) (d : Content) (at i index : ℕ) (e : ReadError) → NamesSpoilt f d (at + i) (at + i + 1) e → AreIntact f d at i → AreIntact f d at index
     → (IsIntactIn f (at + index) (sector_at d (at + index)) → ⊥) → IsThat (at + index) e
 first_spoilt f d at i index Device named passed before not = inl refl
-first_spoilt f d at i index (Damaged place) named passed before not =
-    let here : place ≡ at + i = omega (arith, named.first, named.last) in
+first_spoilt f d at i index (Damaged position) named passed before not =
+    let here : position ≡ at + i = omega (arith, named.first, named.last) in
     let spoilt : IsIntactIn f (at + i) (sector_at d (at + i)) → ⊥ = λ own. named.spoilt (subst (λ n. IsIntactIn f n (sector_at d n)) (sym here) own) in
     ⊎_elim (λ (less : i < index). absurd (spoilt (before i less)))
     (λ more. ⊎_elim (λ (less : index < i). absurd (not (passed index less)))
-    (λ other. let same : place ≡ at + index = omega (arith, here, more, other) in inr (inr (ap (λ n. Damaged n) same)))
+    (λ other. let same : position ≡ at + index = omega (arith, here, more, other) in inr (inr (ap (λ n. Damaged n) same)))
     (cases_lt index i)) (cases_lt i index)
 first_spoilt f d at i index OutOfMemory named passed before not = inr (inl refl)
 
@@ -109,12 +109,12 @@ one_more_intact f d at i passed own j lt =
     ⊎_elim (λ (less : j < i). passed j less) (λ more. (let same : j ≡ i = omega (arith, lt, more) in subst (λ n. IsIntactIn f (at + n) (sector_at d (at + n))) (sym same) own)) (cases_lt j i)
 
 -- Where the content before opens, no sector of its bank that is named was there so: what is named was altered.
-pub names_altered : (f : Format) (s : Sizes) (k : Stored) (c d : Content) (root : List ℕ) (parts : List (List ℕ)) (from until place : ℕ) → OpensByIn f s c root parts k
-    → snapshot_place s (number root) ≤ from → until ≤ bank_end s (number root) → IsSpoilt f d from until place → sector_at d place ≢ sector_at c place
-names_altered f s k c d root parts from until place opens low high named =
-    spoilt_altered f c d place (bank_intact f s k c root parts opens place (omega (arith, low, named.first)) (omega (arith, high, named.last))) named.spoilt
+pub names_altered : (f : Format) (s : Sizes) (k : Stored) (c d : Content) (root : List ℕ) (parts : List (List ℕ)) (from until position : ℕ) → OpensByIn f s c root parts k
+    → snapshot_place s (number root) ≤ from → until ≤ bank_end s (number root) → IsSpoilt f d from until position → sector_at d position ≢ sector_at c position
+names_altered f s k c d root parts from until position opens low high named =
+    spoilt_altered f c d position (bank_intact f s k c root parts opens position (omega (arith, low, named.first)) (omega (arith, high, named.last))) named.spoilt
 
 -- On the content itself none is named.
-pub none_spoilt : (f : Format) (s : Sizes) (k : Stored) (c : Content) (root : List ℕ) (parts : List (List ℕ)) (from until place : ℕ) → OpensByIn f s c root parts k
-    → snapshot_place s (number root) ≤ from → until ≤ bank_end s (number root) → IsSpoilt f c from until place → ⊥
-none_spoilt f s k c root parts from until place opens low high named = names_altered f s k c c root parts from until place opens low high named refl
+pub none_spoilt : (f : Format) (s : Sizes) (k : Stored) (c : Content) (root : List ℕ) (parts : List (List ℕ)) (from until position : ℕ) → OpensByIn f s c root parts k
+    → snapshot_place s (number root) ≤ from → until ≤ bank_end s (number root) → IsSpoilt f c from until position → ⊥
+none_spoilt f s k c root parts from until position opens low high named = names_altered f s k c c root parts from until position opens low high named refl

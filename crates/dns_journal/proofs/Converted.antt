@@ -272,10 +272,10 @@ module _ (s : Sizes) (k : Stored) (d : Content) (x : List ℕ) (parts : List (Li
 
   ends : IsNextHead high (place_behind middle lays.entries) (version_of stored) opened (sector_at after (place_behind middle lays.entries)) → ⊥
   ends next_head =
-      let place : middle + length ys ≡ place_behind middle lays.entries = sectors_place lays.entries middle in
-      let less : middle + length ys < high = omega (arith, place, next_head.within) in
+      let position : middle + length ys ≡ place_behind middle lays.entries = sectors_place lays.entries middle in
+      let less : middle + length ys < high = omega (arith, position, next_head.within) in
       let is : sector_at after (place_behind middle lays.entries) ≡ blank =
-      ap (λ q. sector_at after q) (sym place) ∙ ap (λ (c : Content). sector_at c (middle + length ys)) after_is ∙ behind_blank d low middle high xs ys parts_in entries_in inside less in
+      ap (λ q. sector_at after q) (sym position) ∙ ap (λ (c : Content). sector_at c (middle + length ys)) after_is ∙ behind_blank d low middle high xs ys parts_in entries_in inside less in
       blank_no_head (sector_at after (place_behind middle lays.entries)) is next_head.tagged
 
   own : AreOwn (writes_from (snapshot_place (rooms_of r) (other_of (bank_number r.bank))) xs ++ writes_from (journal_place (rooms_of r) (other_of (bank_number r.bank))) ys)

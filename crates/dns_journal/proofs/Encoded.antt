@@ -48,7 +48,7 @@ pub stages : (old new : Cursor) (h : Head) (x octets : List ℕ) (m n : ℕ) (bo
     → pairs heads' ≡ pairs heads ++ (old.at, x) ∷ [] → old.at + entry_sectors (length octets) ≤ old.until
     → new.at ≡ old.at + (1 + n) → new.until ≡ old.until → new.version ≡ old.version + 1 → new.opened ≡ old.opened
     → Stages old new bodies bodies' heads heads' octets
-stages old new h x octets m n bodies bodies' heads heads' says opened version len m_is first_is head_own n_is pushes heads_is room place until version_new opened_new =
+stages old new h x octets m n bodies bodies' heads heads' says opened version len m_is first_is head_own n_is pushes heads_is room position until version_new opened_new =
     let rest = drop m octets in
     let rest_size : length rest ≡ length octets - head_room = omega (arith, length-drop m octets, m_is) in
     let flat : flat_map payload pushes.sectors ≡ rest ++ replicate (payload_room * n - length rest) 0 =
@@ -83,7 +83,7 @@ stages old new h x octets m n bodies bodies' heads heads' says opened version le
       head_own = head_own;
       bodies_are = pushes.written;
       heads_are = heads_is;
-      place = omega (arith, place, pushes.count_is);
+      position = omega (arith, position, pushes.count_is);
       until_stays = until;
       version_is = version_new;
       opened_stays = opened_new;

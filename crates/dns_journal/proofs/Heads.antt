@@ -75,14 +75,14 @@ module _ (f : Format) where
   -- what is at a cursor, as an entry
   pub found : (old new : Cursor) (x : List ℕ) (h : Head) (c : Content) (octets : List ℕ) → sector_at c old.at ≡ x → IsNextHeadIn f old.until old.at old.version old.opened x → SaysHeadIn f x h → HoldsEntry f x old.at c octets
       → new.at ≡ old.at + entry_sectors_in f h.length → new.until ≡ old.until → new.version ≡ h.version → new.opened ≡ h.open_count → FindsEntry f old new c octets
-  found old new x h c octets stands next says holds place until version opened = record {
+  found old new x h c octets stands next says holds position until version opened = record {
     entry = record { head = x; bodies = sectors_from c (old.at + 1) (number x) };
     next = record { head = next; count = length-from c (old.at + 1) (number x); bodies = holds.bodies; zeros = holds.zeros };
     head = stands;
     bodies = from_stands (number x) c (old.at + 1);
     octets_are = holds.octets_are;
     size = omega (arith, length-from c (old.at + 1) (number x), next.bodies, holds.length_is, ap (entry_sectors_in f) holds.length_is);
-    place = omega (arith, place, says.bodies_is, length-from c (old.at + 1) (number x));
+    position = omega (arith, position, says.bodies_is, length-from c (old.at + 1) (number x));
     until_stays = until;
     version_is = version ∙ sym says.version_is ∙ next.next;
     opened_is = opened ∙ sym says.opened_is;
@@ -100,17 +100,17 @@ module _ (f : Format) where
       (subst (λ (y : List ℕ). AreZeros (drop (entry_length y - head_room_in f) (flat_map (payload_in f) (sectors_from c (cursor.at + 1) (number x))))) head
       (subst (λ (ys : List (List ℕ)). AreZeros (drop (entry_length e.head - head_room_in f) (flat_map (payload_in f) ys))) bodies there.0.zeros))
 
-  no_body : (x : List ℕ) (at : ℕ) (c : Content) (place : ℕ) → IsWrongBody f x at c place → AreBodiesIn f x 0 (sectors_from c at (number x)) → ⊥
-  no_body x at c place fault are = fault.wrong (subst (λ n. IsBodyIn f x fault.index (sector_at c n)) (sym fault.place_is) (are_at f (number x) x c at fault.index are fault.within))
+  no_body : (x : List ℕ) (at : ℕ) (c : Content) (position : ℕ) → IsWrongBody f x at c position → AreBodiesIn f x 0 (sectors_from c at (number x)) → ⊥
+  no_body x at c position fault are = fault.wrong (subst (λ n. IsBodyIn f x fault.index (sector_at c n)) (sym fault.place_is) (are_at f (number x) x c at fault.index are fault.within))
 
   -- where a sector is named as wrong, nothing can be read
-  pub refused_read : (cursor : Cursor) (c : Content) (place : ℕ) → IsRefusal f cursor c (Damaged place) → (es : List Entry) → ReadsFrom f cursor c es → ⊥
-  refused_read cursor c place (next, inl fault) = nothing_read cursor (sector_at c cursor.at) c refl next (λ are zeros. no_body (sector_at c cursor.at) (cursor.at + 1) c place fault are)
-  refused_read cursor c place (next, inr fault) = nothing_read cursor (sector_at c cursor.at) c refl next (λ are zeros. fault.wrong zeros)
+  pub refused_read : (cursor : Cursor) (c : Content) (position : ℕ) → IsRefusal f cursor c (Damaged position) → (es : List Entry) → ReadsFrom f cursor c es → ⊥
+  refused_read cursor c position (next, inl fault) = nothing_read cursor (sector_at c cursor.at) c refl next (λ are zeros. no_body (sector_at c cursor.at) (cursor.at + 1) c position fault are)
+  refused_read cursor c position (next, inr fault) = nothing_read cursor (sector_at c cursor.at) c refl next (λ are zeros. fault.wrong zeros)
 
   -- nor is an entry there
-  pub refused_found : (cursor new : Cursor) (c : Content) (octets : List ℕ) → FindsEntry f cursor new c octets → (place : ℕ) → IsRefusal f cursor c (Damaged place) → ⊥
-  refused_found cursor new c octets finds place refusal =
+  pub refused_found : (cursor new : Cursor) (c : Content) (octets : List ℕ) → FindsEntry f cursor new c octets → (position : ℕ) → IsRefusal f cursor c (Damaged position) → ⊥
+  refused_found cursor new c octets finds position refusal =
       let x = sector_at c cursor.at in
       let head : finds.entry.head ≡ x = sym finds.head in
       let bodies : finds.entry.bodies ≡ sectors_from c (cursor.at + 1) (number x) = stand_is finds.entry.bodies c (cursor.at + 1) finds.bodies ∙ ap (λ n. sectors_from c (cursor.at + 1) n) (finds.next.count ∙ ap (λ (y : List ℕ). number y) head) in
@@ -118,12 +118,12 @@ module _ (f : Format) where
       let zeros : AreZeros (drop (entry_length x - head_room_in f) (flat_map (payload_in f) (sectors_from c (cursor.at + 1) (number x)))) =
       subst (λ (y : List ℕ). AreZeros (drop (entry_length y - head_room_in f) (flat_map (payload_in f) (sectors_from c (cursor.at + 1) (number x))))) head
       (subst (λ (ys : List (List ℕ)). AreZeros (drop (entry_length finds.entry.head - head_room_in f) (flat_map (payload_in f) ys))) bodies finds.next.zeros) in
-      ⊎_elim (λ fault. no_body x (cursor.at + 1) c place fault are) (λ fault. fault.wrong zeros) refusal.1
+      ⊎_elim (λ fault. no_body x (cursor.at + 1) c position fault are) (λ fault. fault.wrong zeros) refusal.1
 
   pub refused : (cursor : Cursor) (x : List ℕ) (c : Content) (e : ReadError) → sector_at c cursor.at ≡ x → IsNextHeadIn f cursor.until cursor.at cursor.version cursor.opened x → IsBadEntry f x cursor.at c e → IsRefusal f cursor c e
   refused cursor x c Device stands next not = tt
-  refused cursor x c (Damaged place) stands next not =
-      (subst (λ (y : List ℕ). IsNextHeadIn f cursor.until cursor.at cursor.version cursor.opened y) (sym stands) next, subst (λ (y : List ℕ). IsWrongBody f y (cursor.at + 1) c place ⊎ IsWrongEnd f y (cursor.at + 1) c place) (sym stands) not)
+  refused cursor x c (Damaged position) stands next not =
+      (subst (λ (y : List ℕ). IsNextHeadIn f cursor.until cursor.at cursor.version cursor.opened y) (sym stands) next, subst (λ (y : List ℕ). IsWrongBody f y (cursor.at + 1) c position ⊎ IsWrongEnd f y (cursor.at + 1) c position) (sym stands) not)
   refused cursor x c OutOfMemory stands next not = tt
 
   -- where an entry is, what reading refuses is that a sector isn't intact
@@ -131,7 +131,7 @@ module _ (f : Format) where
       → FindsEntry f cursor new c octets → NamesSpoilt f d from until e ⊎ IsBadEntry f x cursor.at c e → NamesSpoilt f d from until e
   bad_found cursor new x d c from until octets e stands next finds (inl spoilt) = spoilt
   bad_found cursor new x d c from until octets Device stands next finds (inr bad) = tt
-  bad_found cursor new x d c from until octets (Damaged place) stands next finds (inr bad) = absurd (refused_found cursor new c octets finds place (refused cursor x c (Damaged place) stands next bad))
+  bad_found cursor new x d c from until octets (Damaged position) stands next finds (inr bad) = absurd (refused_found cursor new c octets finds position (refused cursor x c (Damaged position) stands next bad))
   bad_found cursor new x d c from until octets OutOfMemory stands next finds (inr bad) = tt
 
   -- What is found is the first of what is read, whatever that is.
@@ -146,7 +146,7 @@ module _ (f : Format) where
       ∙ sym (stand_is e.bodies c (old.at + 1) there.2) in
       let same : finds.entry ≡ e = λ i. record { head = head i; bodies = bodies i } in
       let behind : ReadsIn f old.until c new.at new.version new.opened es =
-      subst (λ p. ReadsIn f old.until c p new.version new.opened es) (sym (finds.place ∙ ap (λ (y : Entry). old.at + entry_size y) same))
+      subst (λ p. ReadsIn f old.until c p new.version new.opened es) (sym (finds.position ∙ ap (λ (y : Entry). old.at + entry_size y) same))
       (subst (λ v. ReadsIn f old.until c (old.at + entry_size e) v new.opened es) (sym finds.version_is)
       (subst (λ o. ReadsIn f old.until c (old.at + entry_size e) (old.version + 1) o es) (sym (finds.opened_is ∙ ap (λ (y : List ℕ). open_count y) head)) there.3)) in
       (e, es, refl, finds.octets_are ∙ ap (octets_of_in f) same, subst (λ u. ReadsIn f u c new.at new.version new.opened es) (sym finds.until_stays) behind)
@@ -166,7 +166,7 @@ module _ (f : Format) where
       ∙ sym (stand_is b.entry.bodies c (old.at + 1) b.bodies) in
       let same : a.entry ≡ b.entry = λ i. record { head = head i; bodies = bodies i } in (
         λ i. record {
-          at = (a.place ∙ ap (λ (y : Entry). old.at + entry_size y) same ∙ sym b.place) i;
+          at = (a.position ∙ ap (λ (y : Entry). old.at + entry_size y) same ∙ sym b.position) i;
           until = (a.until_stays ∙ sym b.until_stays) i;
           version = (a.version_is ∙ sym b.version_is) i;
           opened = (a.opened_is ∙ ap (λ (y : List ℕ). open_count y) head ∙ sym b.opened_is) i;

@@ -21,7 +21,7 @@ use Rattle.dns_journal.specs.Bank.{piece, part_of, HoldsOctets, sectors_of_entri
 use Rattle.dns_journal.proofs.Looking.{flat_more}
 use Rattle.dns_journal.proofs.Pushing.{writes_more, part_more, front_is}
 use Rattle.dns_journal.proofs.Staged.{batch_more}
-use Rattle.dns_journal.proofs.Bank.{place-more, version-more}
+use Rattle.dns_journal.proofs.Bank.{position-more, version-more}
 use Rattle.dns_journal.proofs.Altered.{own_append}
 use Rattle.dns_journal.proofs.Turning.{sectors_append}
 use Rattle.dns_journal.proofs.Standing.{sectors_within}
@@ -79,7 +79,7 @@ entry_pushed old new before middle after octets stages = record {
   written =
       stages.bodies_are ∙ ap (λ (l : List Write). l ++ writes_from (old.at + 1) stages.entry.bodies) stages.heads_are
       ∙ append_assoc (pairs before) ((old.at, stages.entry.head) ∷ []) (writes_from (old.at + 1) stages.entry.bodies);
-  place = stages.place;
+  position = stages.position;
   until_stays = stages.until_stays;
   version_is = stages.version_is;
   opened_stays = stages.opened_stays;
@@ -106,7 +106,7 @@ entries_more old mid new changes c before middle after all one =
     let e = one.entry in
     let next : IsNextEntry old.until (place_behind old.at all.entries) (version_behind old.version all.entries) old.opened e =
     subst (λ u. IsNextEntry u (place_behind old.at all.entries) (version_behind old.version all.entries) old.opened e) all.until_stays
-    (subst (λ a. IsNextEntry mid.until a (version_behind old.version all.entries) old.opened e) all.place
+    (subst (λ a. IsNextEntry mid.until a (version_behind old.version all.entries) old.opened e) all.position
     (subst (λ v. IsNextEntry mid.until mid.at v old.opened e) all.version_is (subst (λ o. IsNextEntry mid.until mid.at mid.version o e) all.opened_stays one.next))) in
     record {
       entries = all.entries ++ e ∷ [];
@@ -116,12 +116,12 @@ entries_more old mid new changes c before middle after all one =
           subst (λ (xs : List (List ℕ)). AreOwn (writes_from old.at xs)) (sym (sectors_push all.entries e))
           (subst (λ (ws : List Write). AreOwn ws) (sym (sectors_append (sectors_of_entries all.entries) (e.head ∷ e.bodies) old.at))
           (own_append (writes_from old.at (sectors_of_entries all.entries)) (writes_from (old.at + length (sectors_of_entries all.entries)) (e.head ∷ e.bodies)) all.own
-          (subst (λ n. AreOwn (writes_from n (e.head ∷ e.bodies))) (all.place ∙ sym (sectors_place all.entries old.at)) one.own)));
+          (subst (λ n. AreOwn (writes_from n (e.head ∷ e.bodies))) (all.position ∙ sym (sectors_place all.entries old.at)) one.own)));
       written =
           one.written ∙ ap (λ (l : List Write). l ++ writes_from mid.at (e.head ∷ e.bodies)) all.written ∙ append_assoc before (writes_from old.at (sectors_of_entries all.entries)) (writes_from mid.at (e.head ∷ e.bodies))
-          ∙ ap (λ n. before ++ (writes_from old.at (sectors_of_entries all.entries) ++ writes_from n (e.head ∷ e.bodies))) (all.place ∙ sym (sectors_place all.entries old.at))
+          ∙ ap (λ n. before ++ (writes_from old.at (sectors_of_entries all.entries) ++ writes_from n (e.head ∷ e.bodies))) (all.position ∙ sym (sectors_place all.entries old.at))
           ∙ ap (λ (l : List Write). before ++ l) (sym (sectors_append (sectors_of_entries all.entries) (e.head ∷ e.bodies) old.at)) ∙ ap (λ (l : List (List ℕ)). before ++ writes_from old.at l) (sym (sectors_push all.entries e));
-      place = one.place ∙ ap (λ n. n + entry_size e) all.place ∙ sym (place-more all.entries (e ∷ []) old.at);
+      position = one.position ∙ ap (λ n. n + entry_size e) all.position ∙ sym (position-more all.entries (e ∷ []) old.at);
       until_stays = one.until_stays ∙ all.until_stays;
       version_is = one.version_is ∙ ap (λ n. n + 1) all.version_is ∙ sym (version-more all.entries (e ∷ []) old.version);
       opened_stays = one.opened_stays ∙ all.opened_stays;
@@ -156,7 +156,7 @@ lays s bank opened base first octets changes next new middle ws first_is at_is u
   written =
       entries.written ∙ ap (λ (l : List Write). l ++ writes_from next.at (sectors_of_entries entries.entries)) parts.written ∙ ap (λ n. writes_from n parts.sectors ++ writes_from next.at (sectors_of_entries entries.entries)) first_is
       ∙ ap (λ n. writes_from (snapshot_place s bank) parts.sectors ++ writes_from n (sectors_of_entries entries.entries)) at_is;
-  at_is = entries.place ∙ ap (λ n. place_behind n entries.entries) at_is;
+  at_is = entries.position ∙ ap (λ n. place_behind n entries.entries) at_is;
   until_is = entries.until_stays ∙ until_is;
   version_is = entries.version_is ∙ ap (λ n. version_behind n entries.entries) version_is;
   opened_is = entries.opened_stays ∙ opened_is;

@@ -74,7 +74,7 @@ module _ {D : Type 0} {g : Ghosts D} (shape : Sizes) (old new : Journal D g) (k 
           batch = batch_more staged e (bank_end shape (number root)) first (version_of k) (open_count root) keeps.2.batch next (stages.opened ∙ keeps.2.opened_is);
           bodies = stages.bodies_are ∙ ap (λ (ws : List Write). ws ++ writes_from (old.next.at + 1) e.bodies) keeps.2.bodies ∙ ap (λ n. body_writes first staged ++ writes_from (n + 1) e.bodies) keeps.2.at_is ∙ sym (bodies_more staged e first);
           until_is = stages.until_stays ∙ keeps.2.until_is;
-          at_is = stages.place ∙ ap (λ n. n + entry_size e) keeps.2.at_is ∙ sym (place_more staged e first);
+          at_is = stages.position ∙ ap (λ n. n + entry_size e) keeps.2.at_is ∙ sym (place_more staged e first);
           version_is = stages.version_is ∙ ap (λ n. n + 1) keeps.2.version_is ∙ sym (version_more staged e (version_of k));
           opened_is = stages.opened_stays ∙ keeps.2.opened_is;
           heads = stages.heads_are ∙ ap (λ (ws : List Write). ws ++ (old.next.at, e.head) ∷ []) keeps.2.heads ∙ ap (λ n. head_writes first staged ++ (n, e.head) ∷ []) keeps.2.at_is ∙ sym (heads_more staged e first);

@@ -65,7 +65,7 @@ pub record PushesEntry (old new : Cursor) (octets : List ℕ) (before after : Li
   pub size : entry_size entry ≡ entry_sectors (length octets)
   pub own : AreOwn (writes_from old.at (entry.head ∷ entry.bodies))
   pub written : after ≡ before ++ writes_from old.at (entry.head ∷ entry.bodies)
-  pub place : new.at ≡ old.at + entry_size entry
+  pub position : new.at ≡ old.at + entry_size entry
   pub until_stays : new.until ≡ old.until
   pub version_is : new.version ≡ old.version + 1
   pub opened_stays : new.opened ≡ old.opened
@@ -89,7 +89,7 @@ pub record PushesEntries (old new : Cursor) (changes : List Change) (before afte
   pub batch : IsBatch old.until old.at old.version old.opened entries
   pub own : AreOwn (writes_from old.at (sectors_of_entries entries))
   pub written : after ≡ before ++ writes_from old.at (sectors_of_entries entries)
-  pub place : new.at ≡ place_behind old.at entries
+  pub position : new.at ≡ place_behind old.at entries
   pub until_stays : new.until ≡ old.until
   pub version_is : new.version ≡ version_behind old.version entries
   pub opened_stays : new.opened ≡ old.opened

@@ -310,10 +310,10 @@ pub(crate) fn push_bodies(
             version: head.version,
             index: i,
         };
-        let place = at + i as usize;
+        let position = at + i as usize;
         let write = SectorWrite {
-            at: place,
-            octets: body.encode(place, part),
+            at: position,
+            octets: body.encode(position, part),
         };
         bodies.push_reserved(write);
     }

@@ -152,10 +152,10 @@ pub(crate) fn push_parts(
         → AllWithin n writes.new.items }
 {
     for index in 0..snapshot_sectors(octets.len()) {
-        let place = at + index;
+        let position = at + index;
         let write = SectorWrite {
-            at: place,
-            octets: snapshot_sector(place, bank_open, base, octets, index as u32),
+            at: position,
+            octets: snapshot_sector(position, bank_open, base, octets, index as u32),
         };
         writes.push(write)?;
     }

@@ -42,10 +42,10 @@ same_root f x r k a b name = λ i. record {
 pub field_front : (apex : List ℕ) → IsPlainApex apex → take 455 (apex_octets apex) ++ replicate 9 0 ≡ apex_octets apex
 field_front apex plain =
     let n = length apex in
-    let place : 455 ≡ n + (455 - n) = omega (arith, plain.short) in
+    let position : 455 ≡ n + (455 - n) = omega (arith, plain.short) in
     let room : (455 - n) + 9 ≡ 464 - n = omega (arith, plain.short) in
     let le : 455 - n ≤ 464 - n = omega (arith, plain.short) in
-    ap (λ (k : ℕ). take k (apex_octets apex) ++ replicate 9 0) place
+    ap (λ (k : ℕ). take k (apex_octets apex) ++ replicate 9 0) position
     ∙ ap (λ (l : List ℕ). l ++ replicate 9 0) (take-append-add apex (replicate (464 - n) 0) (455 - n))
     ∙ ap (λ (l : List ℕ). (apex ++ l) ++ replicate 9 0) (take-replicate (455 - n) (464 - n) 0 le)
     ∙ append_assoc apex (replicate (455 - n) 0) (replicate 9 0)

@@ -123,10 +123,10 @@ module _ (shape : Shape) (o : Opened) (s : Stored) (d : Content) (root : Root) (
 
     fit : AllFit shape.snapshot (drop next o.versions)
     fit =
-        let place : length vs - n ≡ gone = omega (arith, long) in
+        let position : length vs - n ≡ gone = omega (arith, long) in
         let sum : o.base + gone ≡ next = omega (arith, long, behind, there, read.part.so_far) in
         let rest : drop gone vs ≡ drop next o.versions = drop-drop gone o.base o.versions ∙ ap (λ m. drop m o.versions) sum in
-        subst (AllFit shape.snapshot) (ap (λ m. drop m vs) place ∙ rest) (fit_last shape.snapshot (base_of o) vs n there choice.may.rooms)
+        subst (AllFit shape.snapshot) (ap (λ m. drop m vs) position ∙ rest) (fit_last shape.snapshot (base_of o) vs n there choice.may.rooms)
 
     pub gone_led : AreLed base.records (take (length changes - n) vs) (take (length changes - n) changes)
     gone_led = led_take gone base.records vs changes led
@@ -163,9 +163,9 @@ module _ (shape : Shape) (o : Opened) (s : Stored) (d : Content) (root : Root) (
         → (after : Opened) → IsMigrated shape o after → IsPartOf shape after new
     migrated octets new is turned after to =
         let same : to.kept ≡ n = one_choice shape.snapshot shape.journal (base_of o) vs to.kept n to.chosen choice in
-        let place : next ≡ after.base = omega (arith, to.base, same) in
+        let position : next ≡ after.base = omega (arith, to.base, same) in
         let part = part_turned One (fresh shape o) s new next octets (drop gone changes) read.part fit is turned in
-        subst (λ (a : Opened). IsPartOf shape a new) (λ i. record { loaded = sym to.loaded i; versions = sym to.versions i; base = place i; openings = after.openings })
+        subst (λ (a : Opened). IsPartOf shape a new) (λ i. record { loaded = sym to.loaded i; versions = sym to.versions i; base = position i; openings = after.openings })
         (part_opened shape (durable_part (moved_to next (fresh shape o))) after.openings new part)
 
     -- A crash leaves what was read, or what is migrated.

@@ -139,8 +139,8 @@ is_chosen room journal base vs cs first n led is some kept =
           ⊎_elim (λ (zero_is : first < 1). absurd (omega (arith, zero_is, less, may.there, long)))
           (λ (one : 1 ≤ first).
           let there = may.rooms (length vs - (first - 1)) (omega (arith, less, one, some, long)) in
-          let place : length vs - (length vs - (first - 1)) ≡ first - 1 = omega (arith, one, some, long) in
-          let fits : sectors_of_snapshot (version_from base vs (first - 1)) ≤ room = subst (λ q. sectors_of_snapshot (version_from base vs q) ≤ room) place there in
+          let position : length vs - (length vs - (first - 1)) ≡ first - 1 = omega (arith, one, some, long) in
+          let fits : sectors_of_snapshot (version_from base vs (first - 1)) ≤ room = subst (λ q. sectors_of_snapshot (version_from base vs q) ≤ room) position there in
           absurd (omega (arith, fits, wide)))
           (cases_lt first 1))
           (λ le. le)

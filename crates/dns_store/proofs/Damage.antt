@@ -26,25 +26,25 @@ use Rattle.dns_store.specs.Damage.{NamesSector, NamesSpoiltIn, ReadChange, IsSte
 -- what reading one sector or one entry says, as opening says it
 pub spoilt_named : (f : Format) (d : Content) (from until : ℕ) (e : ReadError) (r : OpenError) → r ≡ open_error e → NamesSpoilt f d from until e → (r ≡ OpenError.Device) ⊎ (r ≡ OpenError.OutOfMemory) ⊎ NamesSpoiltIn f d from until r
 spoilt_named f d from until ReadError.Device r is spoilt = inl is
-spoilt_named f d from until (ReadError.Damaged place) r is spoilt = inr (inr (subst (λ (q : OpenError). NamesSpoiltIn f d from until q) (sym is) spoilt))
+spoilt_named f d from until (ReadError.Damaged position) r is spoilt = inr (inr (subst (λ (q : OpenError). NamesSpoiltIn f d from until q) (sym is) spoilt))
 spoilt_named f d from until ReadError.OutOfMemory r is spoilt = inr (inl is)
 
 pub of_memory : (e : ReadError) → open_error e ≡ OpenError.OutOfMemory → e ≡ ReadError.OutOfMemory
 of_memory ReadError.Device is = absurd cc
-of_memory (ReadError.Damaged place) is = absurd cc
+of_memory (ReadError.Damaged position) is = absurd cc
 of_memory ReadError.OutOfMemory is = refl
 
-pub sector_named : (place : ℕ) (e : ReadError) (r : OpenError) → r ≡ open_error e → IsThat place e → NamesSector place r
-sector_named place e r is (inl failed) = inl (is ∙ ap open_error failed)
-sector_named place e r is (inr (inl memory)) = inr (inl (is ∙ ap open_error memory))
-sector_named place e r is (inr (inr that)) = inr (inr (is ∙ ap open_error that))
+pub sector_named : (position : ℕ) (e : ReadError) (r : OpenError) → r ≡ open_error e → IsThat position e → NamesSector position r
+sector_named position e r is (inl failed) = inl (is ∙ ap open_error failed)
+sector_named position e r is (inr (inl memory)) = inr (inl (is ∙ ap open_error memory))
+sector_named position e r is (inr (inr that)) = inr (inr (is ∙ ap open_error that))
 
 module _ (f : Format) where
   -- in a wider range
   pub named_within : (d : Content) (low from until high : ℕ) (r : OpenError) → low ≤ from → until ≤ high → NamesSpoiltIn f d from until r → NamesSpoiltIn f d low high r
   named_within d low from until high OpenError.Device a b s = s
   named_within d low from until high OpenError.Blank a b s = s
-  named_within d low from until high (OpenError.Damaged place) a b s = record { first = omega (arith, a, s.first); last = omega (arith, b, s.last); spoilt = s.spoilt }
+  named_within d low from until high (OpenError.Damaged position) a b s = record { first = omega (arith, a, s.first); last = omega (arith, b, s.last); spoilt = s.spoilt }
   named_within d low from until high OpenError.Geometry a b s = s
   named_within d low from until high OpenError.OutOfMemory a b s = s
 
@@ -65,9 +65,9 @@ module _ (f : Format) where
       → NamesSpoilt f c at.at at.until e ⊎ IsRefusal f at c e
       → NamesSpoiltIn f c low high r ⊎ NamesWrongEntryIn f apex room base from c r
   refusal_named apex room base from c steps at newest read low high a b ReadError.Device r is wrong = inr (subst (λ (q : OpenError). NamesWrongEntryIn f apex room base from c q) (sym is) tt)
-  refusal_named apex room base from c steps at newest read low high a b (ReadError.Damaged place) r is (inl spoilt) =
+  refusal_named apex room base from c steps at newest read low high a b (ReadError.Damaged position) r is (inl spoilt) =
       inl (named_within c low at.at at.until high r a b (subst (λ (q : OpenError). NamesSpoiltIn f c at.at at.until q) (sym is) spoilt))
-  refusal_named apex room base from c steps at newest read low high a b (ReadError.Damaged place) r is (inr wrong) =
+  refusal_named apex room base from c steps at newest read low high a b (ReadError.Damaged position) r is (inr wrong) =
       inr (subst (λ (q : OpenError). NamesWrongEntryIn f apex room base from c q) (sym is)
       (record { steps = steps; at = at; newest = newest; read = read; wrong = inl wrong }))
   refusal_named apex room base from c steps at newest read low high a b ReadError.OutOfMemory r is wrong = inr (subst (λ (q : OpenError). NamesWrongEntryIn f apex room base from c q) (sym is) tt)
@@ -81,7 +81,7 @@ module _ (f : Format) where
       → ((after : List Record) (d : Change) → IsChange newest after d → HasEntry d → entry d ≡ octets → IsZone (record { apex = apex; records = after }) → sectors_of_snapshot_in f after ≤ room → r ≡ OpenError.OutOfMemory)
       → (r ≡ OpenError.OutOfMemory) ⊎ (r ≡ OpenError.Damaged head)
       → NamesWrongEntryIn f apex room base from c r
-  fault_named apex room base from c steps at behind newest octets head read found place r only told =
+  fault_named apex room base from c steps at behind newest octets head read found position r only told =
       ⊎_elim
       (λ (memory : r ≡ OpenError.OutOfMemory). subst (λ (q : OpenError). NamesWrongEntryIn f apex room base from c q) (sym memory) tt)
       (λ (damaged : r ≡ OpenError.Damaged head).
@@ -92,7 +92,7 @@ module _ (f : Format) where
         newest = newest;
         read = read;
         wrong = inr (record {
-          place_is = place;
+          place_is = position;
           octets = octets;
           behind = behind;
           found = found;
@@ -105,11 +105,11 @@ module _ (f : Format) where
   pub root_named : (s : Shape) (c : Content) (sizes : Sizes) (count : ℕ) (r : OpenError) → (r ≡ OpenError.Device) ⊎ NamesSpoiltIn f c 0 1 r ⊎ RootRefusalIn f sizes count (sector_at c 0) r → NamesWrongIn f s c r
   root_named s c sizes count OpenError.Device why = tt
   root_named s c sizes count OpenError.Blank why = tt
-  root_named s c sizes count (OpenError.Damaged place) (inl failed) = absurd cc
-  root_named s c sizes count (OpenError.Damaged place) (inr (inl spoilt)) =
-      let first : place ≡ 0 = omega (arith, spoilt.last) in
+  root_named s c sizes count (OpenError.Damaged position) (inl failed) = absurd cc
+  root_named s c sizes count (OpenError.Damaged position) (inr (inl spoilt)) =
+      let first : position ≡ 0 = omega (arith, spoilt.last) in
       inl (first, λ sound. spoilt.spoilt (subst (λ n. IsIntactIn f n (sector_at c n)) (sym first) sound.own))
-  root_named s c sizes count (OpenError.Damaged place) (inr (inr is)) = inl (is.0, is.2)
+  root_named s c sizes count (OpenError.Damaged position) (inr (inr is)) = inl (is.0, is.2)
   root_named s c sizes count OpenError.Geometry why = tt
   root_named s c sizes count OpenError.OutOfMemory why = tt
 
@@ -118,18 +118,18 @@ module _ (f : Format) where
     bank_named : (from until : ℕ) → at ≤ from → until ≤ at + s.snapshot + s.journal → (r : OpenError) → NamesSpoiltIn f c from until r → NamesWrongIn f s c r
     bank_named from until a b OpenError.Device spoilt = tt
     bank_named from until a b OpenError.Blank spoilt = tt
-    bank_named from until a b (OpenError.Damaged place) spoilt =
+    bank_named from until a b (OpenError.Damaged position) spoilt =
         inr (root, says, inl (record { first = omega (arith, a, at_is, spoilt.first); last = omega (arith, b, at_is, spoilt.last); spoilt = spoilt.spoilt }))
     bank_named from until a b OpenError.Geometry spoilt = tt
     bank_named from until a b OpenError.OutOfMemory spoilt = tt
 
     pub snapshot_named : (size : ℕ) → size ≤ s.snapshot → (e : ReadError) (r : OpenError) → r ≡ open_error e → NamesSpoilt f c at (at + size) e ⊎ IsBadSnapshotIn f (sector_at c 0) at c e → NamesWrongIn f s c r
     snapshot_named size le ReadError.Device r is bad = subst (λ (q : OpenError). NamesWrongIn f s c q) (sym is) tt
-    snapshot_named size le (ReadError.Damaged place) r is (inl spoilt) =
+    snapshot_named size le (ReadError.Damaged position) r is (inl spoilt) =
         bank_named at (at + size) (omega arith) (omega (arith, le)) r (subst (λ (q : OpenError). NamesSpoiltIn f c at (at + size) q) (sym is) spoilt)
-    snapshot_named size le (ReadError.Damaged place) r is (inr bad) =
+    snapshot_named size le (ReadError.Damaged position) r is (inr bad) =
         subst (λ (q : OpenError). NamesWrongIn f s c q) (sym is)
-        (inr (root, says, inr (inl (subst (λ n. IsBadSnapshotIn f (sector_at c 0) n c (ReadError.Damaged place)) at_is bad))))
+        (inr (root, says, inr (inl (subst (λ n. IsBadSnapshotIn f (sector_at c 0) n c (ReadError.Damaged position)) at_is bad))))
     snapshot_named size le ReadError.OutOfMemory r is bad = subst (λ (q : OpenError). NamesWrongIn f s c q) (sym is) tt
 
     -- octets that are no zone's
@@ -146,9 +146,9 @@ module _ (f : Format) where
         → NamesSpoiltIn f c (at + s.snapshot) (at + s.snapshot + s.journal) r ⊎ NamesWrongEntryIn f s.apex s.snapshot base (record { at = at + s.snapshot; until = at + s.snapshot + s.journal; version = root.base; opened = root.bank_open }) c r → NamesWrongIn f s c r
     journal_named base holds valid OpenError.Device wrong = tt
     journal_named base holds valid OpenError.Blank wrong = tt
-    journal_named base holds valid (OpenError.Damaged place) (inl spoilt) =
-        bank_named (at + s.snapshot) (at + s.snapshot + s.journal) (omega arith) (omega arith) (OpenError.Damaged place) spoilt
-    journal_named base holds valid (OpenError.Damaged place) (inr wrong) =
+    journal_named base holds valid (OpenError.Damaged position) (inl spoilt) =
+        bank_named (at + s.snapshot) (at + s.snapshot + s.journal) (omega arith) (omega arith) (OpenError.Damaged position) spoilt
+    journal_named base holds valid (OpenError.Damaged position) (inr wrong) =
         inr (
           root,
           says,
@@ -156,7 +156,7 @@ module _ (f : Format) where
             base = base;
             holds = subst (λ n. HoldsSnapshotIn f (sector_at c 0) n c (flat_map plain base)) at_is holds;
             valid = valid;
-            wrong = subst (λ n. NamesWrongEntryIn f s.apex s.snapshot base (record { at = n + s.snapshot; until = n + s.snapshot + s.journal; version = root.base; opened = root.bank_open }) c (OpenError.Damaged place)) at_is wrong;
+            wrong = subst (λ n. NamesWrongEntryIn f s.apex s.snapshot base (record { at = n + s.snapshot; until = n + s.snapshot + s.journal; version = root.base; opened = root.bank_open }) c (OpenError.Damaged position)) at_is wrong;
           }))),
         )
     journal_named base holds valid OpenError.Geometry wrong = tt

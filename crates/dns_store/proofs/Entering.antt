@@ -59,7 +59,7 @@ pub none_altered : (f : Format) (n : ℕ) (c : Content) (e : OpenError) → IsNo
 none_altered f n c e (inl stopped) = stopped
 none_altered f n c errors.Device (inr named) = absurd named
 none_altered f n c errors.Blank (inr named) = absurd named
-none_altered f n c (errors.Damaged place) (inr named) = absurd (named.other refl)
+none_altered f n c (errors.Damaged position) (inr named) = absurd (named.other refl)
 none_altered f n c errors.Geometry (inr named) = absurd named
 none_altered f n c errors.OutOfMemory (inr named) = absurd named
 

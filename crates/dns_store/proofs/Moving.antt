@@ -109,9 +109,9 @@ fit_last room base vs n there rooms =
     (λ j lt.
     let size = length-drop gone vs in
     let on : newest_after (newest_after base (take gone vs)) (take (suc j) (drop gone vs)) ≡ newest_after base (take (gone + suc j) vs) = newest_on base gone (suc j) vs in
-    let place : length vs - (n - suc j) ≡ gone + suc j = omega (arith, there, size, lt) in
+    let position : length vs - (n - suc j) ≡ gone + suc j = omega (arith, there, size, lt) in
     subst (λ (r : List Record). sectors_of_snapshot r ≤ room) (sym on)
-    (subst (λ m. sectors_of_snapshot (newest_after base (take m vs)) ≤ room) place (rooms (n - suc j) (omega arith))))
+    (subst (λ m. sectors_of_snapshot (newest_after base (take m vs)) ≤ room) position (rooms (n - suc j) (omega arith))))
 
 -- What is stored after a turn is the later base, and the changes from there.
 pub part_turned : (f : Format) (k : Kept) (s turned : Stored) (base : ℕ) (octets : List ℕ) (changes : List Change) → IsPartOfIn f k.shape (durable_part k) s → AllFit k.shape.snapshot (drop base k.shown) → IsBaseOf k base octets changes → IsTurned s octets changes turned

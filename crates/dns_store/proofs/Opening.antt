@@ -59,15 +59,15 @@ module _ (f : Format) where
     root_there plain count size e (inl failed) = inl (inl failed)
     root_there plain count size Device (inr (inl spoilt)) = absurd spoilt
     root_there plain count size Blank (inr (inl spoilt)) = absurd spoilt
-    root_there plain count size (Damaged place) (inr (inl spoilt)) =
-        let first : place ≡ 0 = omega (arith, spoilt.last) in
+    root_there plain count size (Damaged position) (inr (inl spoilt)) =
+        let first : position ≡ 0 = omega (arith, spoilt.last) in
         let not : IsIntactIn f 0 (sector_at d 0) → ⊥ = λ own. spoilt.spoilt (subst (λ n. IsIntactIn f n (sector_at d n)) (sym first) own) in
         inr (record { spoilt = spoilt.spoilt; other = subst (λ n. sector_at d n ≡ sector_at c n → ⊥) (sym first) (spoilt_altered f c d 0 root_intact not) })
     root_there plain count size Geometry (inr (inl spoilt)) = absurd spoilt
     root_there plain count size OutOfMemory (inr (inl spoilt)) = absurd spoilt
     root_there plain count size Device (inr (inr refusal)) = absurd refusal
     root_there plain count size Blank (inr (inr refusal)) = absurd (not_blank f (sector_at c 0) by.valid.tagged refusal)
-    root_there plain count size (Damaged place) (inr (inr refusal)) =
+    root_there plain count size (Damaged position) (inr (inr refusal)) =
         ⊎_elim
         (λ (less : open_count (sector_at c 0) < 2 ^ 64 - 1).
         absurd
@@ -91,19 +91,19 @@ module _ (f : Format) where
     pub bank_altered : (from until : ℕ) → snapshot_place s (number (sector_at c 0)) ≤ from → until ≤ bank_end s (number (sector_at c 0)) → (r : OpenError) → NamesSpoiltIn f d from until r → NamesAlteredIn f c d r
     bank_altered from until low high Device spoilt = spoilt
     bank_altered from until low high Blank spoilt = spoilt
-    bank_altered from until low high (Damaged place) spoilt = record { spoilt = spoilt.spoilt; other = names_altered f s k c d (sector_at c 0) parts from until place by low high spoilt }
+    bank_altered from until low high (Damaged position) spoilt = record { spoilt = spoilt.spoilt; other = names_altered f s k c d (sector_at c 0) parts from until position by low high spoilt }
     bank_altered from until low high Geometry spoilt = spoilt
     bank_altered from until low high OutOfMemory spoilt = spoilt
 
     pub snapshot_there : (at : ℕ) → at ≡ snapshot_place s (number (sector_at c 0)) → (size : ℕ) → size ≤ s.snapshot → (e : ReadError) (r : OpenError) → r ≡ open_error e → NamesSpoilt f d at (at + size) e ⊎ IsBadSnapshotIn f (sector_at c 0) at c e → IsNotReopened (open_count (sector_at c 0)) r ⊎ NamesAlteredIn f c d r
-    snapshot_there at place size le ReadError.Device r is bad = inl (inl is)
-    snapshot_there at place size le (ReadError.Damaged n) r is (inl spoilt) =
-        inr (bank_altered at (at + size) (omega (arith, place)) (omega (arith, place, le)) r (subst (λ (q : OpenError). NamesSpoiltIn f d at (at + size) q) (sym is) spoilt))
-    snapshot_there at place size le (ReadError.Damaged n) r is (inr bad) =
+    snapshot_there at position size le ReadError.Device r is bad = inl (inl is)
+    snapshot_there at position size le (ReadError.Damaged n) r is (inl spoilt) =
+        inr (bank_altered at (at + size) (omega (arith, position)) (omega (arith, position, le)) r (subst (λ (q : OpenError). NamesSpoiltIn f d at (at + size) q) (sym is) spoilt))
+    snapshot_there at position size le (ReadError.Damaged n) r is (inr bad) =
         absurd
         (⊎_elim (λ part. no_wrong_part f s c (sector_at c 0) parts k by n part) (λ tail. no_wrong_tail f s c (sector_at c 0) parts k by n tail)
-        (subst (λ q. IsBadSnapshotIn f (sector_at c 0) q c (ReadError.Damaged n)) place bad))
-    snapshot_there at place size le ReadError.OutOfMemory r is bad = inl (inr (inl is))
+        (subst (λ q. IsBadSnapshotIn f (sector_at c 0) q c (ReadError.Damaged n)) position bad))
+    snapshot_there at position size le ReadError.OutOfMemory r is bad = inl (inr (inl is))
 
     pub journal_there : (root : Root) → SaysRootIn f (sector_at c 0) root → (cursor : Cursor) → cursor.at ≡ journal_place s (number (sector_at c 0)) → cursor.until ≡ bank_end s (number (sector_at c 0)) → cursor.version ≡ root.base → cursor.opened ≡ root.bank_open → ReadsFrom f cursor c k.entries
     journal_there root says cursor at until version opened =
@@ -118,7 +118,7 @@ module _ (f : Format) where
 -- What a refusal says on any device.
 pub of_reading : (e : ReadError) (r : OpenError) → r ≡ open_error e → IsOfBank r
 of_reading ReadError.Device r is = subst (λ e. IsOfBank e) (sym is) tt
-of_reading (ReadError.Damaged place) r is = subst (λ e. IsOfBank e) (sym is) tt
+of_reading (ReadError.Damaged position) r is = subst (λ e. IsOfBank e) (sym is) tt
 of_reading ReadError.OutOfMemory r is = subst (λ e. IsOfBank e) (sym is) tt
 
 pub of_fault : (head : ℕ) (r : OpenError) → (r ≡ OutOfMemory) ⊎ (r ≡ Damaged head) → IsOfBank r
@@ -129,7 +129,7 @@ module _ (f : Format) where
   pub bank_refused : (s : Sizes) (count : ℕ) (x : List ℕ) → IsRootIn f s x × (count ≡ all_sectors s) → (r : OpenError) → IsOfBank r → OpenRefusalIn f s count x r
   bank_refused s count x root Device is = tt
   bank_refused s count x root Blank is = absurd is
-  bank_refused s count x root (Damaged place) is = inr root
+  bank_refused s count x root (Damaged position) is = inr root
   bank_refused s count x root Geometry is = absurd is
   bank_refused s count x root OutOfMemory is = tt
 
@@ -138,12 +138,12 @@ module _ (f : Format) where
   root_refused s count c Blank (inl failed) = absurd cc
   root_refused s count c Blank (inr (inl spoilt)) = absurd spoilt
   root_refused s count c Blank (inr (inr is)) = is
-  root_refused s count c (Damaged place) (inl failed) = absurd cc
-  root_refused s count c (Damaged place) (inr (inl spoilt)) =
-      let first : place ≡ 0 = omega (arith, spoilt.last) in
+  root_refused s count c (Damaged position) (inl failed) = absurd cc
+  root_refused s count c (Damaged position) (inr (inl spoilt)) =
+      let first : position ≡ 0 = omega (arith, spoilt.last) in
       let not : IsIntactIn f 0 (sector_at c 0) → ⊥ = λ own. spoilt.spoilt (subst (λ n. IsIntactIn f n (sector_at c n)) (sym first) own) in
       inl (first, λ is. not (blank_intact f 0 (sector_at c 0) is), λ sound. not sound.own)
-  root_refused s count c (Damaged place) (inr (inr is)) = inl is
+  root_refused s count c (Damaged position) (inr (inr is)) = inl is
   root_refused s count c Geometry (inl failed) = absurd cc
   root_refused s count c Geometry (inr (inl spoilt)) = absurd spoilt
   root_refused s count c Geometry (inr (inr is)) = inr (inr (inr is))

@@ -34,8 +34,8 @@ module _ (f : Format) where
       (λ (less : k < n). are_at n x c at k parts.0 less) (eq-or-lt_of_le (omega (arith, lt)))
 
   -- a snapshot that is there has no wrong sector
-  pub part_held : (x : List ℕ) (at : ℕ) (c : Content) (octets : List ℕ) → HoldsSnapshotIn f x at c octets → (place : ℕ) → IsWrongPartIn f x at c place → ⊥
-  part_held x at c octets holds place fault =
+  pub part_held : (x : List ℕ) (at : ℕ) (c : Content) (octets : List ℕ) → HoldsSnapshotIn f x at c octets → (position : ℕ) → IsWrongPartIn f x at c position → ⊥
+  part_held x at c octets holds position fault =
       fault.wrong (subst (λ n. IsPartIn f x fault.index (sector_at c n)) (sym fault.place_is) (are_at (parts_in f x) x c at fault.index holds.parts fault.within))
 
   module _ (s : Sizes) (c : Content) (x : List ℕ) (parts : List (List ℕ)) (k : Stored) (opens : OpensByIn f s c x parts k) where
@@ -47,11 +47,11 @@ module _ (f : Format) where
     snapshot_is octets holds = holds.octets_are ∙ ap (λ (l : List (List ℕ)). take (snapshot_length x) (flat_map (payload_in f) l)) (sym parts_are) ∙ opens.snapshot
 
     -- no sector of it is wrong
-    pub no_wrong_part : (place : ℕ) → IsWrongPartIn f x (snapshot_place s (number x)) c place → ⊥
-    no_wrong_part place fault =
+    pub no_wrong_part : (position : ℕ) → IsWrongPartIn f x (snapshot_place s (number x)) c position → ⊥
+    no_wrong_part position fault =
         fault.wrong
         (subst (λ n. IsPartIn f x fault.index (sector_at c n)) (sym fault.place_is)
         (are_at (parts_in f x) x c (snapshot_place s (number x)) fault.index (subst (λ (l : List (List ℕ)). ArePartsIn f x 0 l) parts_are opens.expected) fault.within))
 
-    pub no_wrong_tail : (place : ℕ) → IsWrongTailIn f x (snapshot_place s (number x)) c place → ⊥
-    no_wrong_tail place fault = fault.wrong (subst (λ (l : List (List ℕ)). AreZeros (drop (snapshot_length x) (flat_map (payload_in f) l))) parts_are opens.zeros)
+    pub no_wrong_tail : (position : ℕ) → IsWrongTailIn f x (snapshot_place s (number x)) c position → ⊥
+    no_wrong_tail position fault = fault.wrong (subst (λ (l : List (List ℕ)). AreZeros (drop (snapshot_length x) (flat_map (payload_in f) l))) parts_are opens.zeros)

@@ -31,39 +31,39 @@ pub record IsTaken (f : Format) (apex : Labels) (room : ℕ) (before : List Reco
 module _ (f : Format) (apex : Labels) (room : ℕ) (d : Content) where
   steps_rise : (from : Cursor) (base : List Record) (steps : List ReadChange) (at : Cursor) (newest : List Record) → AreStepsIn f apex room d from base steps at newest → from.at ≤ at.at
   steps_rise from base [] at newest read = omega (arith, ap (λ (k : Cursor). k.at) read.0)
-  steps_rise from base (s ∷ steps) at newest read = omega (arith, read.0.found.place, steps_rise s.behind s.after steps at newest read.1)
+  steps_rise from base (s ∷ steps) at newest read = omega (arith, read.0.found.position, steps_rise s.behind s.after steps at newest read.1)
 
-  module _ (base : List Record) (at : Cursor) (place : ℕ) where
+  module _ (base : List Record) (at : Cursor) (position : ℕ) where
     -- where reading an entry is refused
-    pub reach_refused : IsReachedEntryIn f apex room base at d place → (e : ReadError) (r : OpenError) → r ≡ open_error e → (at.at < at.until → IsReachedAt f at d place → IsThat place e)
-        → ((new : Cursor) (octets : List ℕ) → FindsEntry f at new d octets → NamesSpoilt f d at.at new.at e) → NamesSector place r
+    pub reach_refused : IsReachedEntryIn f apex room base at d position → (e : ReadError) (r : OpenError) → r ≡ open_error e → (at.at < at.until → IsReachedAt f at d position → IsThat position e)
+        → ((new : Cursor) (octets : List ℕ) → FindsEntry f at new d octets → NamesSpoilt f d at.at new.at e) → NamesSector position r
     reach_refused reached e r is direct near = go reached.steps reached.at reached.newest reached.read reached.own reached.due reached.reached
       where
-        spoilt : (until end : ℕ) → until ≤ end → ((q : ℕ) → at.at ≤ q → q < end → IsIntactIn f q (sector_at d q)) → (e : ReadError) → NamesSpoilt f d at.at until e → IsThat place e
+        spoilt : (until end : ℕ) → until ≤ end → ((q : ℕ) → at.at ≤ q → q < end → IsIntactIn f q (sector_at d q)) → (e : ReadError) → NamesSpoilt f d at.at until e → IsThat position e
         spoilt until end le own ReadError.Device named = inl refl
         spoilt until end le own (ReadError.Damaged n) named = absurd (named.spoilt (own n named.first (omega (arith, named.last, le))))
         spoilt until end le own ReadError.OutOfMemory named = inr (inl refl)
 
-        go : (steps : List ReadChange) (end : Cursor) (newest : List Record) → AreStepsIn f apex room d at base steps end newest → ((q : ℕ) → at.at ≤ q → q < end.at → IsIntactIn f q (sector_at d q)) → end.at < end.until → IsReachedAt f end d place → NamesSector place r
-        go [] end newest read own due there = sector_named place e r is (direct (subst (λ (k : Cursor). k.at < k.until) read.0 due) (subst (λ (k : Cursor). IsReachedAt f k d place) read.0 there))
+        go : (steps : List ReadChange) (end : Cursor) (newest : List Record) → AreStepsIn f apex room d at base steps end newest → ((q : ℕ) → at.at ≤ q → q < end.at → IsIntactIn f q (sector_at d q)) → end.at < end.until → IsReachedAt f end d position → NamesSector position r
+        go [] end newest read own due there = sector_named position e r is (direct (subst (λ (k : Cursor). k.at < k.until) read.0 due) (subst (λ (k : Cursor). IsReachedAt f k d position) read.0 there))
         go (s ∷ steps) end newest read own due there =
-            sector_named place e r is (spoilt s.behind.at end.at (steps_rise s.behind s.after steps end newest read.1) own e (near s.behind (entry s.change) read.0.found))
+            sector_named position e r is (spoilt s.behind.at end.at (steps_rise s.behind s.after steps end newest read.1) own e (near s.behind (entry s.change) read.0.found))
 
-    module _ (direct : at.at < at.until → IsReachedAt f at d place → ⊥) where
+    module _ (direct : at.at < at.until → IsReachedAt f at d position → ⊥) where
       -- Nothing is there: so it isn't reached.
-      pub reach_ended : IsReachedEntryIn f apex room base at d place → IsJournalEnd f at d → ⊥
+      pub reach_ended : IsReachedEntryIn f apex room base at d position → IsJournalEnd f at d → ⊥
       reach_ended reached ends = go reached.steps reached.at reached.newest reached.read reached.due reached.reached
         where
-          go : (steps : List ReadChange) (end : Cursor) (newest : List Record) → AreStepsIn f apex room d at base steps end newest → end.at < end.until → IsReachedAt f end d place → ⊥
-          go [] end newest read due there = direct (subst (λ (k : Cursor). k.at < k.until) read.0 due) (subst (λ (k : Cursor). IsReachedAt f k d place) read.0 there)
+          go : (steps : List ReadChange) (end : Cursor) (newest : List Record) → AreStepsIn f apex room d at base steps end newest → end.at < end.until → IsReachedAt f end d position → ⊥
+          go [] end newest read due there = direct (subst (λ (k : Cursor). k.at < k.until) read.0 due) (subst (λ (k : Cursor). IsReachedAt f k d position) read.0 there)
           go (s ∷ steps) end newest read due there =
               ends (subst (λ (y : List ℕ). IsNextHeadIn f at.until at.at at.version at.opened y) (sym read.0.found.head) read.0.found.next.head)
 
-      module _ (reached : IsReachedEntryIn f apex room base at d place) (new : Cursor) (octets : List ℕ) (finds : FindsEntry f at new d octets) where
+      module _ (reached : IsReachedEntryIn f apex room base at d position) (new : Cursor) (octets : List ℕ) (finds : FindsEntry f at new d octets) where
         -- the first of the steps is the entry that was found
-        first_step : (steps : List ReadChange) (end : Cursor) (newest : List Record) → AreStepsIn f apex room d at base steps end newest → end.at < end.until → IsReachedAt f end d place
+        first_step : (steps : List ReadChange) (end : Cursor) (newest : List Record) → AreStepsIn f apex room d at base steps end newest → end.at < end.until → IsReachedAt f end d position
             → (s : ReadChange) × (rest : List ReadChange) × IsTaken f apex room base octets s.change × (applied s.change base ≡ s.after) × (s.behind ≡ new) × AreStepsIn f apex room d s.behind s.after rest end newest
-        first_step [] end newest read due there = absurd (direct (subst (λ (k : Cursor). k.at < k.until) read.0 due) (subst (λ (k : Cursor). IsReachedAt f k d place) read.0 there))
+        first_step [] end newest read due there = absurd (direct (subst (λ (k : Cursor). k.at < k.until) read.0 due) (subst (λ (k : Cursor). IsReachedAt f k d position) read.0 there))
         first_step (s ∷ steps) end newest read due there =
             let once = finds_once f at s.behind new d (entry s.change) octets read.0.found finds in
             let is = read.0 in
@@ -74,7 +74,7 @@ module _ (f : Format) (apex : Labels) (room : ℕ) (d : Content) where
         reach_taken = let first = first_step reached.steps reached.at reached.newest reached.read reached.due reached.reached in (first.0.change, first.2)
 
         -- after it the sector is still reached
-        pub reach_on : (c : Change) (after : List Record) → ((e : Change) → IsTaken f apex room base octets e → c ≡ e) → applied c base ≡ after → IsReachedEntryIn f apex room after new d place
+        pub reach_on : (c : Change) (after : List Record) → ((e : Change) → IsTaken f apex room base octets e → c ≡ e) → applied c base ≡ after → IsReachedEntryIn f apex room after new d position
         reach_on c after only makes =
             let first = first_step reached.steps reached.at reached.newest reached.read reached.due reached.reached in
             let s = first.0 in
@@ -84,7 +84,7 @@ module _ (f : Format) (apex : Labels) (room : ℕ) (d : Content) where
               at = reached.at;
               newest = reached.newest;
               read = subst (λ (k : Cursor). AreStepsIn f apex room d k after first.1 reached.at reached.newest) first.4 (subst (λ (rs : List Record). AreStepsIn f apex room d s.behind rs first.1 reached.at reached.newest) newest first.5);
-              own = λ q low high. reached.own q (omega (arith, low, finds.place)) high;
+              own = λ q low high. reached.own q (omega (arith, low, finds.position)) high;
               due = reached.due;
               reached = reached.reached;
             }

@@ -32,12 +32,12 @@ pub record Goes (f : Format) (old now : Cursor) (c : Content) (apex : Labels) (r
   pub newest_is : newest ≡ newest_after base front
   pub reads : ReadsFrom f now c left
   pub are : AreChangesIn f apex room newest rest left
-  pub place : place_behind now.at left ≡ place_behind old.at es
+  pub position : place_behind now.at left ≡ place_behind old.at es
   pub version_is : version_behind now.version left ≡ version_behind old.version es
   pub opened_is : open_behind now.opened left ≡ open_behind old.opened es
 
 pub begins : (f : Format) (old : Cursor) (c : Content) (apex : Labels) (room : ℕ) (base : List Record) (vs : Versions) (es : List Entry) → ReadsFrom f old c es → AreChangesIn f apex room base vs es → Goes f old old c apex room base vs es base []
-begins f old c apex room base vs es reads are = record { front = []; rest = vs; left = es; versions = refl; led = tt; newest_is = refl; reads = reads; are = are; place = refl; version_is = refl; opened_is = refl }
+begins f old c apex room base vs es reads are = record { front = []; rest = vs; left = es; versions = refl; led = tt; newest_is = refl; reads = reads; are = are; position = refl; version_is = refl; opened_is = refl }
 
 led_more : (base : List Record) (vs : Versions) (cs : List Change) (v : List Record) (c : Change) → AreLed base vs cs → IsChange (newest_after base vs) v c → AreLed base (vs ++ v ∷ []) (cs ++ c ∷ [])
 led_more base [] [] v c led next = (next, tt)
@@ -61,8 +61,8 @@ module _ (f : Format) (old now next : Cursor) (c : Content) (apex : Labels) (roo
       → place_behind now.at left ≡ place_behind old.at es → version_behind now.version left ≡ version_behind old.version es → open_behind now.opened left ≡ open_behind old.opened es
       → (e : Entry) (behind : List Entry) → left ≡ e ∷ behind → octets ≡ octets_of_in f e → ReadsFrom f next c behind → next.at ≡ now.at + entry_size e → next.opened ≡ open_count e.head
       → Next f old now next c apex room base vs es newest changes octets
-  with_first front [] left versions led newest_is reads are place version opened e behind is octets_are more at open_is = absurd (subst (λ (l : List Entry). AreChangesIn f apex room newest [] l) is are)
-  with_first front (v ∷ rest) left versions led newest_is reads are place version opened e behind is octets_are more at open_is =
+  with_first front [] left versions led newest_is reads are position version opened e behind is octets_are more at open_is = absurd (subst (λ (l : List Entry). AreChangesIn f apex room newest [] l) is are)
+  with_first front (v ∷ rest) left versions led newest_is reads are position version opened e behind is octets_are more at open_is =
       let steps : AreChangesIn f apex room newest (v ∷ rest) (e ∷ behind) = subst (λ (l : List Entry). AreChangesIn f apex room newest (v ∷ rest) l) is are in
       let leads = steps.0.leads in
       record {
@@ -82,7 +82,7 @@ module _ (f : Format) (old now next : Cursor) (c : Content) (apex : Labels) (roo
           newest_is = sym (newest_append base front (v ∷ []));
           reads = more;
           are = steps.1;
-          place = ap (λ n. place_behind n behind) at ∙ ap (λ (l : List Entry). place_behind now.at l) (sym is) ∙ place;
+          position = ap (λ n. place_behind n behind) at ∙ ap (λ (l : List Entry). place_behind now.at l) (sym is) ∙ position;
           version_is = ap (λ n. version_behind n behind) finds.version_is ∙ ap (λ (l : List Entry). version_behind now.version l) (sym is) ∙ version;
           opened_is = ap (λ n. open_behind n behind) open_is ∙ ap (λ (l : List Entry). open_behind now.opened l) (sym is) ∙ opened;
         };
@@ -94,7 +94,7 @@ module _ (f : Format) (old now next : Cursor) (c : Content) (apex : Labels) (roo
       let there : ReadsFrom f now c (first.0 ∷ first.1) = subst (λ (l : List Entry). ReadsFrom f now c l) first.2 so.reads in
       let same : finds.entry.head ≡ first.0.head = sym finds.head ∙ there.1 in
       let count = ap (λ (y : List ℕ). number y) same in
-      with_first so.front so.rest so.left so.versions so.led so.newest_is so.reads so.are so.place so.version_is so.opened_is first.0 first.1 first.2 first.3 first.4 (omega (arith, finds.place, finds.next.count, there.0.count, count)) (finds.opened_is ∙ ap (λ (y : List ℕ). open_count y) same)
+      with_first so.front so.rest so.left so.versions so.led so.newest_is so.reads so.are so.position so.version_is so.opened_is first.0 first.1 first.2 first.3 first.4 (omega (arith, finds.position, finds.next.count, there.0.count, count)) (finds.opened_is ∙ ap (λ (y : List ℕ). open_count y) same)
 
 -- no entry is left
 pub all_recovered : (f : Format) (old now : Cursor) (c : Content) (apex : Labels) (room : ℕ) (base : List Record) (vs : Versions) (es : List Entry) (newest : List Record) (changes : List Change) → IsJournalEnd f now c → Goes f old now c apex room base vs es newest changes → IsNewestRecovered old now base vs es newest changes
@@ -105,7 +105,7 @@ all_recovered f old now c apex room base vs es newest changes ends so =
     record {
       newest_is = so.newest_is ∙ ap (λ (l : Versions). newest_after base l) whole;
       led = subst (λ (l : Versions). AreLed base l changes) whole so.led;
-      place = ap (λ (l : List Entry). place_behind now.at l) (sym none) ∙ so.place;
+      position = ap (λ (l : List Entry). place_behind now.at l) (sym none) ∙ so.position;
       version_is = ap (λ (l : List Entry). version_behind now.version l) (sym none) ∙ so.version_is;
       opened_is = ap (λ (l : List Entry). open_behind now.opened l) (sym none) ∙ so.opened_is;
     }
@@ -118,6 +118,6 @@ all_recovered f old now c apex room base vs es newest changes ends so =
 pub not_refused : (f : Format) (e : ReadError) (r : OpenError) → r ≡ open_error e → (d : Content) (from until : ℕ) (cursor : Cursor) (c : Content) → NamesSpoilt f d from until e ⊎ IsRefusal f cursor c e → (es : List Entry) → ReadsFrom f cursor c es
     → (r ≡ OpenError.Device) ⊎ (r ≡ OpenError.OutOfMemory) ⊎ NamesSpoiltIn f d from until r
 not_refused f ReadError.Device r is d from until cursor c refusal es reads = inl is
-not_refused f (ReadError.Damaged place) r is d from until cursor c (inl spoilt) es reads = inr (inr (subst (λ (q : OpenError). NamesSpoiltIn f d from until q) (sym is) spoilt))
-not_refused f (ReadError.Damaged place) r is d from until cursor c (inr refusal) es reads = absurd (refused_read f cursor c place refusal es reads)
+not_refused f (ReadError.Damaged position) r is d from until cursor c (inl spoilt) es reads = inr (inr (subst (λ (q : OpenError). NamesSpoiltIn f d from until q) (sym is) spoilt))
+not_refused f (ReadError.Damaged position) r is d from until cursor c (inr refusal) es reads = absurd (refused_read f cursor c position refusal es reads)
 not_refused f ReadError.OutOfMemory r is d from until cursor c refusal es reads = inr (inl is)

@@ -29,13 +29,13 @@ use Rattle.dns_store.specs.Snapshot.{IsReachedPartIn}
 
 -- This sector is named; or the device failed, or memory was refused.
 abbrev pub NamesSector : ℕ → OpenError → Type 0
-NamesSector place e = (e ≡ Device) ⊎ (e ≡ OutOfMemory) ⊎ (e ≡ Damaged place)
+NamesSector position e = (e ≡ Device) ⊎ (e ≡ OutOfMemory) ⊎ (e ≡ Damaged position)
 
 -- A sector is named, from one position on and before another, that is neither zeros nor its own.
 abbrev pub NamesSpoiltIn : Format → Content → ℕ → ℕ → OpenError → Type 0
 NamesSpoiltIn f d from until Device = ⊥
 NamesSpoiltIn f d from until Blank = ⊥
-NamesSpoiltIn f d from until (Damaged place) = IsSpoilt f d from until place
+NamesSpoiltIn f d from until (Damaged position) = IsSpoilt f d from until position
 NamesSpoiltIn f d from until Geometry = ⊥
 NamesSpoiltIn f d from until OutOfMemory = ⊥
 
@@ -44,15 +44,15 @@ abbrev pub RefusesSpoilt : Format → Content → ℕ → ℕ → OpenError → 
 RefusesSpoilt f d from until e = (e ≡ Device) ⊎ (e ≡ OutOfMemory) ⊎ NamesSpoiltIn f d from until e
 
 -- The sector is neither zeros nor its own, and isn't the one that was there before.
-pub record IsAlteredAt (f : Format) (before now : Content) (place : ℕ) : Type 0 where
-  pub spoilt : IsIntactIn f place (sector_at now place) → ⊥
-  pub other : sector_at now place ≢ sector_at before place
+pub record IsAlteredAt (f : Format) (before now : Content) (position : ℕ) : Type 0 where
+  pub spoilt : IsIntactIn f position (sector_at now position) → ⊥
+  pub other : sector_at now position ≢ sector_at before position
 
 -- Such a sector is named.
 abbrev pub NamesAlteredIn : Format → Content → Content → OpenError → Type 0
 NamesAlteredIn f before now Device = ⊥
 NamesAlteredIn f before now Blank = ⊥
-NamesAlteredIn f before now (Damaged place) = IsAlteredAt f before now place
+NamesAlteredIn f before now (Damaged position) = IsAlteredAt f before now position
 NamesAlteredIn f before now Geometry = ⊥
 NamesAlteredIn f before now OutOfMemory = ⊥
 
@@ -96,8 +96,8 @@ IsNoStepIn f apex room before octets =
 
 -- The head at the cursor is named: its entry is that of no change to such a zone.
 pub record IsNoStepAtIn (f : Format) (apex : Labels) (room : ℕ) (c : Content) (at : Cursor)
-    (before : List Record) (place : ℕ) : Type 0 where
-  pub place_is : place ≡ at.at
+    (before : List Record) (position : ℕ) : Type 0 where
+  pub place_is : position ≡ at.at
   pub octets : List ℕ
   pub behind : Cursor
   pub found : FindsEntry f at behind c octets
@@ -106,17 +106,17 @@ pub record IsNoStepAtIn (f : Format) (apex : Labels) (room : ℕ) (c : Content) 
 -- After some entries that are right, the sector belongs to one that is wrong: a body, or the head of no such
 -- change.
 pub record IsWrongEntryIn (f : Format) (apex : Labels) (room : ℕ) (base : List Record) (from : Cursor)
-    (c : Content) (place : ℕ) : Type 0 where
+    (c : Content) (position : ℕ) : Type 0 where
   pub steps : List ReadChange
   pub at : Cursor
   pub newest : List Record
   pub read : AreStepsIn f apex room c from base steps at newest
-  pub wrong : IsRefusal f at c (ReadError.Damaged place) ⊎ IsNoStepAtIn f apex room c at newest place
+  pub wrong : IsRefusal f at c (ReadError.Damaged position) ⊎ IsNoStepAtIn f apex room c at newest position
 
 abbrev pub NamesWrongEntryIn : Format → Labels → ℕ → List Record → Cursor → Content → OpenError → Type 0
 NamesWrongEntryIn f apex room base from c Device = Unit {0}
 NamesWrongEntryIn f apex room base from c Blank = Unit {0}
-NamesWrongEntryIn f apex room base from c (Damaged place) = IsWrongEntryIn f apex room base from c place
+NamesWrongEntryIn f apex room base from c (Damaged position) = IsWrongEntryIn f apex room base from c position
 NamesWrongEntryIn f apex room base from c Geometry = Unit {0}
 NamesWrongEntryIn f apex room base from c OutOfMemory = Unit {0}
 
@@ -137,37 +137,37 @@ journal_from s r = record {
 
 -- The snapshot's first sector is named: its octets are those of no zone.
 pub record IsNoZoneAtIn (f : Format) (s : Shape) (x : List ℕ) (r : Root) (c : Content)
-    (place : ℕ) : Type 0 where
-  pub place_is : place ≡ bank_at s r
+    (position : ℕ) : Type 0 where
+  pub place_is : position ≡ bank_at s r
   pub octets : List ℕ
   pub holds : HoldsSnapshotIn f x (bank_at s r) c octets
   pub none : IsNoSnapshot s.apex octets
 
 -- The snapshot is a zone's, and the sector is wrong in the journal after it.
 pub record IsWrongBehindIn (f : Format) (s : Shape) (x : List ℕ) (r : Root) (c : Content)
-    (place : ℕ) : Type 0 where
+    (position : ℕ) : Type 0 where
   pub base : List Record
   pub holds : HoldsSnapshotIn f x (bank_at s r) c (flat_map plain base)
   pub valid : IsZone (record { apex = s.apex; records = base })
-  pub wrong : IsWrongEntryIn f s.apex s.snapshot base (journal_from s r) c place
+  pub wrong : IsWrongEntryIn f s.apex s.snapshot base (journal_from s r) c position
 
 -- The sector is wrong in the bank that the root x names: it is neither zeros nor its own, or not what is due
 -- there.
 abbrev pub IsWrongBankIn : Format → Shape → List ℕ → Root → Content → ℕ → Type 0
-IsWrongBankIn f s x r c place =
-    IsSpoilt f c (bank_at s r) (bank_until s r) place
-    ⊎ IsBadSnapshotIn f x (bank_at s r) c (ReadError.Damaged place)
-    ⊎ IsNoZoneAtIn f s x r c place
-    ⊎ IsWrongBehindIn f s x r c place
+IsWrongBankIn f s x r c position =
+    IsSpoilt f c (bank_at s r) (bank_until s r) position
+    ⊎ IsBadSnapshotIn f x (bank_at s r) c (ReadError.Damaged position)
+    ⊎ IsNoZoneAtIn f s x r c position
+    ⊎ IsWrongBehindIn f s x r c position
 
 -- Damaged names the sector that is wrong: the first, which is no root that can be opened once more, or one of
 -- the bank that it names.
 abbrev pub NamesWrongIn : Format → Shape → Content → OpenError → Type 0
 NamesWrongIn f s c Device = Unit {0}
 NamesWrongIn f s c Blank = Unit {0}
-NamesWrongIn f s c (Damaged place) =
-    ((place ≡ 0) × (IsSoundIn f (sector_at c 0) → ⊥))
-    ⊎ ((r : Root) × SaysRootIn f (sector_at c 0) r × IsWrongBankIn f s (sector_at c 0) r c place)
+NamesWrongIn f s c (Damaged position) =
+    ((position ≡ 0) × (IsSoundIn f (sector_at c 0) → ⊥))
+    ⊎ ((r : Root) × SaysRootIn f (sector_at c 0) r × IsWrongBankIn f s (sector_at c 0) r c position)
 NamesWrongIn f s c Geometry = Unit {0}
 NamesWrongIn f s c OutOfMemory = Unit {0}
 
@@ -177,39 +177,39 @@ NamesWrong s c e = NamesWrongIn Two s c e
 -- After entries that are right, of which each sector is intact, reading reaches the sector: where the next
 -- head is due, or a body that the head there announces.
 pub record IsReachedEntryIn (f : Format) (apex : Labels) (room : ℕ) (base : List Record) (from : Cursor)
-    (c : Content) (place : ℕ) : Type 0 where
+    (c : Content) (position : ℕ) : Type 0 where
   pub steps : List ReadChange
   pub at : Cursor
   pub newest : List Record
   pub read : AreStepsIn f apex room c from base steps at newest
   pub own : (q : ℕ) → from.at ≤ q → q < at.at → IsIntactIn f q (sector_at c q)
   pub due : at.at < at.until
-  pub reached : IsReachedAt f at c place
+  pub reached : IsReachedAt f at c position
 
 -- The snapshot is a zone's and each of its sectors is intact, and the sector is reached in the journal after
 -- it.
 pub record IsReachedBehindIn (f : Format) (s : Shape) (x : List ℕ) (r : Root) (c : Content)
-    (place : ℕ) : Type 0 where
+    (position : ℕ) : Type 0 where
   pub base : List Record
   pub holds : HoldsSnapshotIn f x (bank_at s r) c (flat_map plain base)
   pub own : AreIntact f c (bank_at s r) (parts_in f x)
   pub valid : IsZone (record { apex = s.apex; records = base })
-  pub reached : IsReachedEntryIn f s.apex s.snapshot base (journal_from s r) c place
+  pub reached : IsReachedEntryIn f s.apex s.snapshot base (journal_from s r) c position
 
 -- Reading reaches the sector in the bank that the root x names: it is a part of the snapshot, or of the
 -- journal after that.
 abbrev pub IsReachedBankIn : Format → Shape → List ℕ → Root → Content → ℕ → Type 0
-IsReachedBankIn f s x r c place =
-    ((index : ℕ) × (place ≡ bank_at s r + index) × IsReachedPartIn f x (bank_at s r) c index)
-    ⊎ IsReachedBehindIn f s x r c place
+IsReachedBankIn f s x r c position =
+    ((index : ℕ) × (position ≡ bank_at s r + index) × IsReachedPartIn f x (bank_at s r) c index)
+    ⊎ IsReachedBehindIn f s x r c position
 
 -- Reading a store of this shape reaches the sector: it is the first; or, after the root of such a store, one
 -- of the bank that the root names.
 abbrev pub IsReachedIn : Format → Shape → Content → ℕ → Type 0
-IsReachedIn f s c place =
-    ((place ≡ 0) × (0 < length c))
+IsReachedIn f s c position =
+    ((position ≡ 0) × (0 < length c))
     ⊎ ((r : Root) × IsFoundRootIn f (sizes_of s) (length c) (sector_at c 0) r
-    × IsReachedBankIn f s (sector_at c 0) r c place)
+    × IsReachedBankIn f s (sector_at c 0) r c position)
 
 abbrev pub IsSectorRead : Shape → Content → ℕ → Type 0
-IsSectorRead s c place = IsReachedIn Two s c place
+IsSectorRead s c position = IsReachedIn Two s c position

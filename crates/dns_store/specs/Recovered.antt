@@ -19,6 +19,6 @@ pub record IsNewestRecovered (old new : Cursor) (base : List Record) (vs : Versi
     : Type 0 where
   pub newest_is : newest ≡ newest_after base vs
   pub led : AreLed base vs changes
-  pub place : new.at ≡ place_behind old.at es
+  pub position : new.at ≡ place_behind old.at es
   pub version_is : new.version ≡ version_behind old.version es
   pub opened_is : new.opened ≡ open_behind old.opened es

@@ -38,7 +38,7 @@ pub record IsFoundRootIn (f : Format) (s : Sizes) (count : ℕ) (x : List ℕ) (
 abbrev pub RootRefusalIn : Format → Sizes → ℕ → List ℕ → OpenError → Type 0
 RootRefusalIn f s count x Device = ⊥
 RootRefusalIn f s count x Blank = x ≡ blank
-RootRefusalIn f s count x (Damaged place) = (place ≡ 0) × (x ≢ blank) × (IsSoundIn f x → ⊥)
+RootRefusalIn f s count x (Damaged position) = (position ≡ 0) × (x ≢ blank) × (IsSoundIn f x → ⊥)
 RootRefusalIn f s count x Geometry = IsSoundIn f x × (IsRootIn f s x → count ≡ all_sectors s → ⊥)
 RootRefusalIn f s count x OutOfMemory = ⊥
 
@@ -47,8 +47,8 @@ RootRefusalIn f s count x OutOfMemory = ⊥
 abbrev pub OpenRefusalIn : Format → Sizes → ℕ → List ℕ → OpenError → Type 0
 OpenRefusalIn f s count x Device = Unit {0}
 OpenRefusalIn f s count x Blank = x ≡ blank
-OpenRefusalIn f s count x (Damaged place) =
-    RootRefusalIn f s count x (Damaged place) ⊎ (IsRootIn f s x × (count ≡ all_sectors s))
+OpenRefusalIn f s count x (Damaged position) =
+    RootRefusalIn f s count x (Damaged position) ⊎ (IsRootIn f s x × (count ≡ all_sectors s))
 OpenRefusalIn f s count x Geometry =
     (count ≡ 0) ⊎ (65536 < s.snapshot) ⊎ (65536 < s.journal) ⊎ RootRefusalIn f s count x Geometry
 OpenRefusalIn f s count x OutOfMemory = Unit {0}
@@ -60,7 +60,7 @@ OpenRefusal s count x e = OpenRefusalIn Two s count x e
 abbrev pub IsOfBank : OpenError → Type 0
 IsOfBank Device = Unit {0}
 IsOfBank Blank = ⊥
-IsOfBank (Damaged place) = Unit {0}
+IsOfBank (Damaged position) = Unit {0}
 IsOfBank Geometry = ⊥
 IsOfBank OutOfMemory = Unit {0}
 

@@ -25,28 +25,28 @@ pub record HoldsSnapshotIn (f : Format) (x : List ℕ) (at : ℕ) (c : Content) 
       ≡ take (snapshot_length x) (flat_map (payload_in f) (sectors_from c at (parts_in f x)))
 
 -- The sector there is the first that isn't the expected part.
-pub record IsWrongPartIn (f : Format) (x : List ℕ) (at : ℕ) (c : Content) (place : ℕ) : Type 0 where
+pub record IsWrongPartIn (f : Format) (x : List ℕ) (at : ℕ) (c : Content) (position : ℕ) : Type 0 where
   pub index : ℕ
-  pub place_is : place ≡ at + index
+  pub place_is : position ≡ at + index
   pub within : index < parts_in f x
   pub before : ArePartsIn f x 0 (sectors_from c at index)
-  pub wrong : IsPartIn f x index (sector_at c place) → ⊥
+  pub wrong : IsPartIn f x index (sector_at c position) → ⊥
 
 -- All parts are the expected ones, and the last has something other than zeros after the snapshot's end.
-pub record IsWrongTailIn (f : Format) (x : List ℕ) (at : ℕ) (c : Content) (place : ℕ) : Type 0 where
-  pub place_is : place + 1 ≡ at + parts_in f x
+pub record IsWrongTailIn (f : Format) (x : List ℕ) (at : ℕ) (c : Content) (position : ℕ) : Type 0 where
+  pub place_is : position + 1 ≡ at + parts_in f x
   pub expected : ArePartsIn f x 0 (sectors_from c at (parts_in f x))
   pub wrong : AreZeros
       (drop (snapshot_length x) (flat_map (payload_in f) (sectors_from c at (parts_in f x)))) → ⊥
 
 abbrev pub IsBadPartIn : Format → List ℕ → ℕ → Content → ReadError → Type 0
 IsBadPartIn f x at c Device = Unit {0}
-IsBadPartIn f x at c (Damaged place) = IsWrongPartIn f x at c place
+IsBadPartIn f x at c (Damaged position) = IsWrongPartIn f x at c position
 IsBadPartIn f x at c OutOfMemory = Unit {0}
 
 abbrev pub IsBadSnapshotIn : Format → List ℕ → ℕ → Content → ReadError → Type 0
 IsBadSnapshotIn f x at c Device = Unit {0}
-IsBadSnapshotIn f x at c (Damaged place) = IsWrongPartIn f x at c place ⊎ IsWrongTailIn f x at c place
+IsBadSnapshotIn f x at c (Damaged position) = IsWrongPartIn f x at c position ⊎ IsWrongTailIn f x at c position
 IsBadSnapshotIn f x at c OutOfMemory = Unit {0}
 
 -- Reading the snapshot that the root x names, from this position on, reaches this part: those before it are

@@ -85,10 +85,10 @@ fn read_parts<D: Sectors>(
     ensures reads { OnlyReads D.Sectors device.old device.new }
 {
     for i in 0..snapshot_sectors_in(format, root.snapshot_length as usize) {
-        let place = at + i;
-        let sector = read_sector(device, format, place)?;
+        let position = at + i;
+        let sector = read_sector(device, format, position)?;
         if !is_part(format, root, i, &sector) {
-            return Err(ReadError::Damaged(place));
+            return Err(ReadError::Damaged(position));
         }
         octets.extend_from_slice(payload(format, &sector))?;
     }

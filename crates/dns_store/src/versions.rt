@@ -118,10 +118,10 @@ pub(crate) fn read_versions<D: Sectors, I: ZoneIndex>(
         NamesSpoiltIn format (D.seen device.old) cursor.old.at cursor.old.until e
         ⊎ NamesWrongEntryIn format base.apex room base.records cursor.old (D.seen device.old) e) }
     // Of a sector that is reached and is neither zeros nor its own it says so.
-    ensures not_own { D.is_honest device.old → (place : ℕ)
-        → IsReachedEntryIn format base.apex room base.records cursor.old (D.seen device.old) place
-        → (IsIntactIn format place (sector_at (D.seen device.old) place) → ⊥)
-        → MatchResult result (λ _. ⊥) (NamesSector place) }
+    ensures not_own { D.is_honest device.old → (position : ℕ)
+        → IsReachedEntryIn format base.apex room base.records cursor.old (D.seen device.old) position
+        → (IsIntactIn format position (sector_at (D.seen device.old) position) → ⊥)
+        → MatchResult result (λ _. ⊥) (NamesSector position) }
     ensures device { result ≡ Err OpenError.Device → HasRisen (D.failed device.old) (D.failed device.new) }
     ensures quiet { OnOk result (D.failed device.new ≡ D.failed device.old) }
     ensures reads { OnlyReads D.Sectors device.old device.new }

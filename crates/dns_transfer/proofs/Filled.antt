@@ -47,11 +47,11 @@ some_behind : (rs : List Record) (soa : Record) → (r : Record) × (more : List
 some_behind [] soa = (soa, [], refl)
 some_behind (x ∷ rs) soa = (x, rs ++ soa ∷ [], refl)
 
-pub some_left : (soa : Record) (records : List Record) (changes : List Change) (place : Place) → (place ≡ End → ⊥) → (r : Record) × (more : List Record) × (left_at soa records changes place ≡ r ∷ more)
+pub some_left : (soa : Record) (records : List Record) (changes : List Change) (position : Place) → (position ≡ End → ⊥) → (r : Record) × (more : List Record) × (left_at soa records changes position ≡ r ∷ more)
 some_left soa records changes (Opening form.Current) more = (soa, [], refl)
 some_left soa records changes (Opening (form.Incremental first)) more = (soa, _, refl)
 some_left soa records changes (Opening form.Full) more = (soa, _, refl)
-some_left soa records changes (Zone place) more = some_behind _ soa
+some_left soa records changes (Zone position) more = some_behind _ soa
 some_left soa records changes (Sequence number behind) more = some_behind (left_in changes number behind) soa
 some_left soa records changes End more = absurd (more refl)
 

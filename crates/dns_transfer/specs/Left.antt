@@ -22,7 +22,7 @@ left_in changes number behind = drop behind (sequences (drop number changes))
 -- The records of an answer that are left.
 abbrev pub left_at : Record → List Record → List Change → Place → List Record
 left_at soa records changes (Opening form) = transfer_answer soa records (stated_form changes form)
-left_at soa records changes (Zone place) = all_but_soa (drop place records) ++ soa ∷ []
+left_at soa records changes (Zone position) = all_but_soa (drop position records) ++ soa ∷ []
 left_at soa records changes (Sequence number behind) = left_in changes number behind ++ soa ∷ []
 left_at soa records changes End = []
 
@@ -31,11 +31,11 @@ pub record Remaining : Type 0 where
   pub soa : Record
   pub records : List Record
   pub changes : List Change
-  pub place : Place
+  pub position : Place
 
 abbrev pub left_of : Remaining → List Record
-left_of r = left_at r.soa r.records r.changes r.place
+left_of r = left_at r.soa r.records r.changes r.position
 
 -- Within the zone, its records from the position on are ready.
 abbrev pub AreRecordsReady : Place → List Record → List Record → Type 0
-AreRecordsReady place ready records = (at : ℕ) → place ≡ Zone at → ready ≡ drop at records
+AreRecordsReady position ready records = (at : ℕ) → position ≡ Zone at → ready ≡ drop at records

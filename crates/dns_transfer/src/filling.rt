@@ -24,22 +24,22 @@ pub(crate) fn fill<'a, I: ZoneIndex>(
     soa: &'a Record,
     index: &'a I,
     history: &'a History,
-    place: Place,
+    position: Place,
 ) -> Result<(Vec<u8, Heap>, Place), AllocError>
     requires { message.reply.answer ≡ [] }
     ensures { IfOk result
         (λ r. IsFilled message.entry.reply message.entry.limit
-        (left_at soa.now (I.records index.now) history.now place) r.0.items
+        (left_at soa.now (I.records index.now) history.now position) r.0.items
         (left_at soa.now (I.records index.now) history.now r.1)) }
 {
-    let mut rest = Rest::at(soa, index, history, place);
-    let mut behind = place;
+    let mut rest = Rest::at(soa, index, history, position);
+    let mut behind = position;
     'records: while let Some(record) = rest.next() {
         match message.push(as_it_stands(record))? {
             Pushed::Open(next) => message = next,
             Pushed::Full(octets) => return Ok((octets, behind)),
         }
-        behind = rest.place();
+        behind = rest.position();
     }
     Ok((message.finish(), behind))
 }

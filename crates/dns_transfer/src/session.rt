@@ -75,7 +75,7 @@ pub struct Session<I: ZoneIndex> {
     pub(crate) soa: Record,
     pub(crate) index: I,
     pub(crate) history: History,
-    pub(crate) place: Place,
+    pub(crate) position: Place,
 }
 
 // Written out, so that a proof lets one go by one call (docs/GATE.md).
@@ -89,9 +89,9 @@ impl<I: ZoneIndex> Drop for Session<I> {
             soa,
             index,
             history,
-            place,
+            position,
         } = self;
-        drop((question, soa, index, history, place));
+        drop((question, soa, index, history, position));
     }
 }
 
@@ -106,7 +106,7 @@ impl<I: ZoneIndex> Model for Session<I> {
       heading = record { id = s.id; rd = s.rd };
       question = s.question;
       soa = s.soa;
-      left = left_at s.soa (I.records s.index) s.history s.place;
+      left = left_at s.soa (I.records s.index) s.history s.position;
     } };
 }
 
@@ -185,7 +185,7 @@ impl<I: ZoneIndex> Session<I> {
             soa: soa.clone()?,
             index: version.zone.index().fork()?,
             history,
-            place: Place::Opening(form),
+            position: Place::Opening(form),
         })
     }
 
@@ -271,8 +271,14 @@ impl<I: ZoneIndex> Session<I> {
             ≡ datagram_of self.now.heading self.now.question self.now.left self.now.soa) }
     {
         let message = self.begun(alloc, MOST_BY_UDP)?;
-        let (whole, place) = fill(message, &self.soa, &self.index, &self.history, self.place)?;
-        if place.is_end() {
+        let (whole, position) = fill(
+            message,
+            &self.soa,
+            &self.index,
+            &self.history,
+            self.position,
+        )?;
+        if position.is_end() {
             return Ok(whole);
         }
         match self
@@ -288,7 +294,7 @@ impl<I: ZoneIndex> Session<I> {
     pub fn is_done(&self) -> bool
         ensures { IsTrue result ↔ (self.now.left ≡ []) }
     {
-        self.place.is_end()
+        self.position.is_end()
     }
 
     /// The next message, made when it is asked for, or none after the last. Where memory is refused the
@@ -300,17 +306,23 @@ impl<I: ZoneIndex> Session<I> {
         ensures more { IfOk result (λ message. OnSome message (self.old.left ≡ [] → ⊥)) }
         ensures refused { OnErr result (self.new ≡ self.old) }
     {
-        if self.place.is_end() {
+        if self.position.is_end() {
             return Ok(None);
         }
-        let (octets, place) = match self.transport {
+        let (octets, position) = match self.transport {
             Transport::Tcp => {
                 let message = self.begun(alloc, MESSAGE_LIMIT)?;
-                fill(message, &self.soa, &self.index, &self.history, self.place)?
+                fill(
+                    message,
+                    &self.soa,
+                    &self.index,
+                    &self.history,
+                    self.position,
+                )?
             }
             Transport::Udp => (self.datagram(alloc)?, Place::End),
         };
-        self.place = place;
+        self.position = position;
         self.question = None;
         Ok(Some(octets))
     }

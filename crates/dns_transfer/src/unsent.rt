@@ -43,7 +43,7 @@ impl Form {
     fn behind_opening(self) -> Place
         ensures left { (soa : Stated) (records : List Stated) (changes : List StatedChange)
             → left_at soa records changes (Opening self) ≡ soa ∷ left_at soa records changes result }
-        ensures start { (place : ℕ) → result ≡ Zone place → place ≡ 0 }
+        ensures start { (position : ℕ) → result ≡ Zone position → position ≡ 0 }
     {
         match self {
             Form::Current => Place::End,
@@ -105,15 +105,15 @@ fn next_of_changes(
 fn next_other<'a, I: ZoneIndex>(
     index: &'a I,
     ready: &mut Records<'a, I>,
-    place: usize,
+    position: usize,
 ) -> Option<(&'a Record, usize)>
-    requires { ready.old ≡ drop place (I.records index.now) }
+    requires { ready.old ≡ drop position (I.records index.now) }
     ensures left { MatchOption result (all_but_soa ready.old ≡ [])
         (λ r. all_but_soa ready.old ≡ r.0.now ∷ all_but_soa ready.new) }
     ensures ready { IfSome result (λ r. ready.new ≡ drop r.1 (I.records index.now)) }
 {
     let _len = index.len();
-    let mut at = place;
+    let mut at = position;
     'records: while let Some(record) = ready.next() {
         at += 1;
         if record.rtype() != SOA {
@@ -130,7 +130,7 @@ pub struct Rest<'a, I: ZoneIndex> {
     soa: &'a Record,
     index: &'a I,
     history: &'a History,
-    place: Place,
+    position: Place,
     ready: Records<'a, I>,
 }
 
@@ -144,19 +144,19 @@ impl<'a, I: ZoneIndex> Model for Rest<'a, I> {
           soa = r.soa.now;
           records = I.records r.index.now;
           changes = r.history.now;
-          place = r.place;
+          position = r.position;
         } };
 
-    ghost invariant = { λ r. AreRecordsReady r.place r.ready (I.records r.index.now) };
+    ghost invariant = { λ r. AreRecordsReady r.position r.ready (I.records r.index.now) };
 }
 
 impl<'a, I: ZoneIndex> Rest<'a, I> {
     /// The records from the position on of the answer for a zone of that SOA, those records and that history.
-    pub fn at(soa: &'a Record, index: &'a I, history: &'a History, place: Place) -> Rest<'a, I>
+    pub fn at(soa: &'a Record, index: &'a I, history: &'a History, position: Place) -> Rest<'a, I>
         ensures { result
-            ≡ record { soa = soa.now; records = I.records index.now; changes = history.now; place = place } }
+            ≡ record { soa = soa.now; records = I.records index.now; changes = history.now; position = position } }
     {
-        let from = match place {
+        let from = match position {
             Place::Zone(at) => at,
             _ => 0,
         };
@@ -164,48 +164,48 @@ impl<'a, I: ZoneIndex> Rest<'a, I> {
             soa,
             index,
             history,
-            place,
+            position,
             ready: Records::from_place(index, from),
         }
     }
 
     /// The position of the next record.
-    pub fn place(&self) -> Place
-        ensures { result ≡ self.now.place }
+    pub fn position(&self) -> Place
+        ensures { result ≡ self.now.position }
     {
-        self.place
+        self.position
     }
 
     /// The next record, if one is left.
     pub fn next(&mut self) -> Option<&'a Record>
         ensures some { IfSome result (λ r. left_of self.old ≡ r.now ∷ left_of self.new) }
         ensures none { IfNone result (left_of self.old ≡ []) }
-        ensures same { self.new ≡ record self.old { place = self.new.place } }
+        ensures same { self.new ≡ record self.old { position = self.new.position } }
     {
-        match self.place {
+        match self.position {
             Place::Opening(form) => {
-                self.place = form.behind_opening();
+                self.position = form.behind_opening();
                 self.ready = Records::of(self.index);
                 Some(self.soa)
             }
-            Place::Zone(place) => match next_other(self.index, &mut self.ready, place) {
-                Some((record, place)) => {
-                    self.place = Place::Zone(place);
+            Place::Zone(position) => match next_other(self.index, &mut self.ready, position) {
+                Some((record, position)) => {
+                    self.position = Place::Zone(position);
                     Some(record)
                 }
                 None => {
-                    self.place = Place::End;
+                    self.position = Place::End;
                     Some(self.soa)
                 }
             },
             Place::Sequence(number, behind) => {
                 match next_of_changes(self.history, number, behind) {
                     Some((record, number, behind)) => {
-                        self.place = Place::Sequence(number, behind);
+                        self.position = Place::Sequence(number, behind);
                         Some(record)
                     }
                     None => {
-                        self.place = Place::End;
+                        self.position = Place::End;
                         Some(self.soa)
                     }
                 }

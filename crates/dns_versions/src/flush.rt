@@ -40,13 +40,13 @@ impl<I: ZoneIndex, S: ZoneStore> ZoneVersions<I, S> {
 }
 
 /// The position of the first failure, where it is known of one position more whether it failed.
-fn first_failure(first: Option<usize>, failed: bool, place: usize) -> Option<usize>
-    ensures { (fails : List Bool) → first ≡ first_true fails → place ≡ length fails
+fn first_failure(first: Option<usize>, failed: bool, position: usize) -> Option<usize>
+    ensures { (fails : List Bool) → first ≡ first_true fails → position ≡ length fails
         → result ≡ first_true (fails ++ failed ∷ []) }
 {
     match first {
         Some(earlier) => Some(earlier),
-        None => { if failed { Some(place) } else { None } }
+        None => { if failed { Some(position) } else { None } }
     }
 }
 

@@ -77,14 +77,14 @@ data_same t u earlier earlier' at at' (Some fields) rdata i j a b p q h k = part
 record_same : (t u : List ℕ) (earlier : List Used) (at : ℕ) (r : Record) (i j : ℕ) (a b : List Used) → RecordCompressed t earlier at r i a → RecordCompressed u earlier at r j b → Same t u at i j a b
 record_same t u earlier at r i j a b h k =
     let one = field_same t u earlier at r.owner h.mid k.mid h.owner k.owner in
-    let place : h.mid ≡ k.mid = one.stop in
-    let three = data_same t u (and_field earlier at h.mid r.owner) (and_field earlier at k.mid r.owner) (h.mid + 10) (k.mid + 10) (form r.rtype) r.rdata i j a b (ap (λ (x : ℕ). x + 10) place) one.later h.rdata k.rdata in
+    let position : h.mid ≡ k.mid = one.stop in
+    let three = data_same t u (and_field earlier at h.mid r.owner) (and_field earlier at k.mid r.owner) (h.mid + 10) (k.mid + 10) (form r.rtype) r.rdata i j a b (ap (λ (x : ℕ). x + 10) position) one.later h.rdata k.rdata in
     let end : i ≡ j = three.stop in
     let last : i ≡ h.mid + 10 + h.size = h.last in
     let last' : j ≡ k.mid + 10 + k.size = k.last in
-    let size : h.size ≡ k.size = omega (arith, place, end, last, last') in
+    let size : h.size ≡ k.size = omega (arith, position, end, last, last') in
     let head = λ (n : ℕ). to_be_bytes w16 r.rtype ++ to_be_bytes w16 class_in ++ to_be_bytes w32 r.ttl ++ to_be_bytes w16 n in
-    let k' : OctetsAt u h.mid (head k.size) (k.mid + 10) = subst (λ (x : ℕ). OctetsAt u x (head k.size) (k.mid + 10)) (sym place) k.fixed in
+    let k' : OctetsAt u h.mid (head k.size) (k.mid + 10) = subst (λ (x : ℕ). OctetsAt u x (head k.size) (k.mid + 10)) (sym position) k.fixed in
     let two = octets_same t u h.mid (h.mid + 10) (k.mid + 10) (head h.size) (head k.size) a b (ap head size) three.later h.fixed k' in
     joined t u at h.mid k.mid i j (and_field earlier at h.mid r.owner) (and_field earlier at k.mid r.owner) a b one
     (joined t u h.mid (h.mid + 10) (k.mid + 10) i j a b a b two three)

@@ -59,8 +59,8 @@ fields_back text places at (Values vs ∷ fields) rdata back form table far h =
     let here = rest_as text at at ((front ++ after.octets) ++ back) (front ++ (after.octets ++ back)) refl (append_assoc front after.octets back) h in
     let p = piece text at front (after.octets ++ back) here in
     let width : length front ≡ octet_count vs = length-take-le (octet_count vs) rdata (octets_room vs fields rdata form) in
-    let place : at + length front ≡ at + octet_count vs = ap (λ (k : ℕ). at + k) width in
-    let more = fields_back text places (at + octet_count vs) fields (drop (octet_count vs) rdata) back (octets_behind vs fields rdata form) (readable_more text places at (at + octet_count vs) (omega arith) table) (omega arith) (rest_as text (at + length front) (at + octet_count vs) (after.octets ++ back) (after.octets ++ back) place refl p.behind) in
+    let position : at + length front ≡ at + octet_count vs = ap (λ (k : ℕ). at + k) width in
+    let more = fields_back text places (at + octet_count vs) fields (drop (octet_count vs) rdata) back (octets_behind vs fields rdata form) (readable_more text places at (at + octet_count vs) (omega arith) table) (omega arith) (rest_as text (at + length front) (at + octet_count vs) (after.octets ++ back) (after.octets ++ back) position refl p.behind) in
     let stop : at + octet_count vs + length after.octets ≡ at + length (front ++ after.octets) = omega (arith, width, length-append front after.octets) in
     record {
       stand = (
@@ -68,7 +68,7 @@ fields_back text places at (Values vs ∷ fields) rdata back form table far h =
         drop (octet_count vs) rdata,
         at + octet_count vs,
         split (octet_count vs) rdata,
-        subst (λ (k : ℕ). FieldAt text at (Values vs) front k) place (field_back text at (Values vs) front (after.octets ++ back) width here),
+        subst (λ (k : ℕ). FieldAt text at (Values vs) front k) position (field_back text at (Values vs) front (after.octets ++ back) width here),
         subst (λ (k : ℕ). FieldsAt text (at + octet_count vs) fields (drop (octet_count vs) rdata) k) stop more.stand,
       );
       table = subst (Readable text after.places) stop more.table;

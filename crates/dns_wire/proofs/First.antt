@@ -25,8 +25,8 @@ apart a b h = go (names_eq a b) refl
 -- another suffix is at none but the positions after the first
 passed : (at : ℕ) (label : List ℕ) (rest suffix : Labels) (after : ℕ) → after ≡ at + 1 + length label → names_eq (label ∷ rest) suffix ≡ false
     → offset_at (new_places [] at (label ∷ rest)) suffix ≡ offset_at (new_places [] after rest) suffix
-passed at label rest suffix after place other =
-    ap (λ (ps : List Place). offset_at ps suffix) (places_next [] [] at label rest after refl place)
+passed at label rest suffix after position other =
+    ap (λ (ps : List Place). offset_at ps suffix) (places_next [] [] at label rest after refl position)
     ∙ offset_at-append (noted at (label ∷ rest)) (new_places [] after rest) suffix
     ∙ ap (λ (o : Option ℕ). option_or o (offset_at (new_places [] after rest) suffix)) (noted_other at label rest suffix other)
 
@@ -40,11 +40,11 @@ none_longer at (label ∷ rest) suffix h =
 -- the suffix is looked for after a label of a longer name
 pub looked_on : (at : ℕ) (octets suffix behind : List ℕ) (after : ℕ) (f : FirstLabel octets) → IsPlain octets → IsPlain suffix → length suffix < length octets → after ≡ at + 1 + length f.label → labels_of behind ≡ f.rest
     → offset_at (new_places [] at (labels_of octets)) (labels_of suffix) ≡ offset_at (new_places [] after (labels_of behind)) (labels_of suffix)
-looked_on at octets suffix behind after f h k short place back =
+looked_on at octets suffix behind after f h k short position back =
     let own : length (wire (f.label ∷ f.rest)) ≡ length octets = ap (λ (n : Labels). length (wire n)) (sym f.is) ∙ ap length h.whole in
     let other : length (wire (labels_of suffix)) ≡ length suffix = ap length k.whole in
     ap (λ (n : Labels). offset_at (new_places [] at n) (labels_of suffix)) f.is
-    ∙ passed at f.label f.rest (labels_of suffix) after place (apart (f.label ∷ f.rest) (labels_of suffix) (λ same. omega (arith, same, own, other, short)))
+    ∙ passed at f.label f.rest (labels_of suffix) after position (apart (f.label ∷ f.rest) (labels_of suffix) (λ same. omega (arith, same, own, other, short)))
     ∙ ap (λ (n : Labels). offset_at (new_places [] after n) (labels_of suffix)) (sym back)
 
 pub found_here : (at : ℕ) (octets suffix : List ℕ) → IsPlain octets → IsPlain suffix → 1 < length octets → nat_lt at 16384 ≡ true → bytes_eq octets suffix ≡ true

@@ -54,20 +54,20 @@ still_high at more h = grind (arith, nat_tests)
 
 pub places_next : (known places : List Place) (at : ℕ) (label : List ℕ) (rest : Labels) (after : ℕ) → place_of known (label ∷ rest) ≡ None → after ≡ at + 1 + length label
     → places ++ new_places known at (label ∷ rest) ≡ (places ++ noted at (label ∷ rest)) ++ new_places known after rest
-places_next known places at label rest after e place = go (nat_lt at 16384) refl
+places_next known places at label rest after e position = go (nat_lt at 16384) refl
   where
     go : (b : Bool) → nat_lt at 16384 ≡ b → places ++ new_places known at (label ∷ rest) ≡ (places ++ noted at (label ∷ rest)) ++ new_places known after rest
     go true low =
         let here : Place = record { offset = at; suffix = label ∷ rest } in
         let new : new_places known at (label ∷ rest) ≡ here ∷ new_places known (at + 1 + length label) rest = rw (e, low, new_places) refl in
         let note : noted at (label ∷ rest) ≡ here ∷ [] = rw (low, noted) refl in
-        ap (λ (xs : List Place). places ++ xs) (new ∙ ap (λ (k : ℕ). here ∷ new_places known k rest) (sym place))
+        ap (λ (xs : List Place). places ++ xs) (new ∙ ap (λ (k : ℕ). here ∷ new_places known k rest) (sym position))
         ∙ sym (append_assoc places (here ∷ []) (new_places known after rest))
         ∙ ap (λ (xs : List Place). (places ++ xs) ++ new_places known after rest) (sym note)
     go false high =
         let none : new_places known at (label ∷ rest) ≡ [] = none_high known at (label ∷ rest) high in
         let far : nat_lt (at + (1 + length label)) 16384 ≡ false = still_high at (1 + length label) high in
-        let same : at + (1 + length label) ≡ after = omega (arith, place) in
+        let same : at + (1 + length label) ≡ after = omega (arith, position) in
         let none' : new_places known after rest ≡ [] = none_high known after rest (ap (λ (k : ℕ). nat_lt k 16384) (sym same) ∙ far) in
         let note : noted at (label ∷ rest) ≡ [] = rw (high, noted) refl in
         ap (λ (xs : List Place). places ++ xs) none

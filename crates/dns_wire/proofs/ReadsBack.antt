@@ -74,13 +74,13 @@ question_back text e back valid h =
     let size : length e.octets ≡ n + 4 = valid.size in
     let f = asked_name text e back valid h in
     let four : n + 2 + 2 ≡ n + 4 = omega arith in
-    let place : 12 + (n + 2) ≡ 12 + n + 2 = omega arith in
+    let position : 12 + (n + 2) ≡ 12 + n + 2 = omega arith in
     let class = slice_within text 12 e.octets back (n + 2) (omega arith) h in
     record {
       mid = 12 + n;
       name = record { stands = ends f.stop f.stand f.root f.last; valid = valid.valid };
       qtype = slice_within text 12 e.octets back n (omega arith) h;
-      qclass = subst (λ (k : ℕ). NumberAt text k 2 (number_of (slice_range e.octets (n + 2) (n + 4)))) place (subst (λ (k : ℕ). NumberAt text (12 + (n + 2)) 2 (number_of (slice_range e.octets (n + 2) k))) four class);
+      qclass = subst (λ (k : ℕ). NumberAt text k 2 (number_of (slice_range e.octets (n + 2) (n + 4)))) position (subst (λ (k : ℕ). NumberAt text (12 + (n + 2)) 2 (number_of (slice_range e.octets (n + 2) k))) four class);
       last = omega arith;
     }
 

@@ -24,10 +24,10 @@ use Rattle.std.proofs.lemmas.List.{length-take-le, length-drop}
 pub number_done : (text : List ℕ) (at size n : ℕ) (octets back : List ℕ) → length octets ≡ size → number_of octets ≡ n → Rest text at (octets ++ back) → NumberAt text at size n
 number_done text at size n octets back width value h =
     let p = piece text at octets back h in
-    let place : at + length octets ≡ at + size = ap (λ (k : ℕ). at + k) width in
+    let position : at + length octets ≡ at + size = ap (λ (k : ℕ). at + k) width in
     record {
-      inside = subst (λ (k : ℕ). k ≤ length text) place p.here.inside;
-      read = sym value ∙ ap number_of (sym p.here.read) ∙ ap (λ (k : ℕ). number_of (slice_range text at k)) place;
+      inside = subst (λ (k : ℕ). k ≤ length text) position p.here.inside;
+      read = sym value ∙ ap number_of (sym p.here.read) ∙ ap (λ (k : ℕ). number_of (slice_range text at k)) position;
     }
 
 -- compression makes nothing longer

@@ -30,13 +30,13 @@ records_left rs i d h =
 
 -- the two octets before the rdata, filled in
 pub sized : (front zeros rdata all : List ℕ) (start : ℕ) → length zeros ≡ 2 → all ≡ (front ++ zeros) ++ rdata → start ≡ length (front ++ zeros) → take (start - 2) all ++ to_be_bytes w16 (length all - start) ++ drop start all ≡ (front ++ to_be_bytes w16 (length rdata)) ++ rdata
-sized front zeros rdata all start two e place =
+sized front zeros rdata all start two e position =
     let width : length (front ++ zeros) ≡ length front + 2 = length-append front zeros ∙ ap (λ (k : ℕ). length front + k) two in
     let total : length all ≡ length (front ++ zeros) + length rdata = ap length e ∙ length-append (front ++ zeros) rdata in
-    let before : length front ≡ start - 2 = omega (arith, width, place) in
-    let size : length all - start ≡ length rdata = omega (arith, total, place) in
+    let before : length front ≡ start - 2 = omega (arith, width, position) in
+    let size : length all - start ≡ length rdata = omega (arith, total, position) in
     let head : take (start - 2) all ≡ front = ap (take (start - 2)) (e ∙ append_assoc front zeros rdata) ∙ take_at front (zeros ++ rdata) (start - 2) before in
-    let tail : drop start all ≡ rdata = ap (drop start) e ∙ drop_at (front ++ zeros) rdata start (sym place) in
+    let tail : drop start all ≡ rdata = ap (drop start) e ∙ drop_at (front ++ zeros) rdata start (sym position) in
     ap (λ (xs : List ℕ). xs ++ to_be_bytes w16 (length all - start) ++ drop start all) head
     ∙ ap (λ (k : ℕ). front ++ to_be_bytes w16 k ++ drop start all) size
     ∙ ap (λ (xs : List ℕ). (front ++ to_be_bytes w16 (length rdata)) ++ xs) tail
@@ -49,8 +49,8 @@ pub record_places : (before : List ℕ) (places : List Place) (r : Record) (one 
 record_places before places r one two p q e1 e2 e3 e4 =
     let owner = compressed_name places (length before) r.owner in
     let ten : length (fixed_octets r.rtype r.ttl) ≡ 10 = refl in
-    let place : length two ≡ length before + length owner.octets + 10 = ap length e3 ∙ length-append one (fixed_octets r.rtype r.ttl) ∙ ap (λ (k : ℕ). k + 10) (ap length e1 ∙ length-append before owner.octets) in
-    ap (λ (ps : List Place). compressed_rdata ps (length two) r) (e4 ∙ e2) ∙ ap (λ (k : ℕ). compressed_rdata owner.places k r) place
+    let position : length two ≡ length before + length owner.octets + 10 = ap length e3 ∙ length-append one (fixed_octets r.rtype r.ttl) ∙ ap (λ (k : ℕ). k + 10) (ap length e1 ∙ length-append before owner.octets) in
+    ap (λ (ps : List Place). compressed_rdata ps (length two) r) (e4 ∙ e2) ∙ ap (λ (k : ℕ). compressed_rdata owner.places k r) position
 
 -- a record, its length filled in
 pub record_octets : (before : List ℕ) (places : List Place) (r : Record) (one two three four : List ℕ) (p q : List Place) (start : ℕ) → one ≡ before ++ (compressed_name places (length before) r.owner).octets → p ≡ (compressed_name places (length before) r.owner).places → two ≡ one ++ fixed_octets r.rtype r.ttl → q ≡ p
@@ -82,7 +82,7 @@ sized_length all four start n up inside e =
     ap length e ∙ size
 
 pub start_of : (one two three fixed more : List ℕ) (start : ℕ) → length fixed ≡ 10 → two ≡ one ++ fixed → three ≡ two ++ more → start ≡ length two → (2 ≤ start) × (start ≤ length three)
-start_of one two three fixed more start ten e f place =
+start_of one two three fixed more start ten e f position =
     let a : length two ≡ length one + length fixed = ap length e ∙ length-append one fixed in
     let b : length three ≡ length two + length more = ap length f ∙ length-append two more in
-    (omega (arith, a, ten, place), omega (arith, b, place))
+    (omega (arith, a, ten, position), omega (arith, b, position))

@@ -81,7 +81,7 @@ next_item m at n h some = go h.items h.count h.stand
 
 -- where the next record ends
 pub record NextEnd (m : List ℕ) (at owner size : ℕ) (r : ResourceRecord) (mid : ℕ) (h : ResourceRecordAt m at r mid) : Type 0 where
-  pub place : h.mid ≡ owner
+  pub position : h.mid ≡ owner
   pub end : mid ≡ owner + 10 + size
 
 pub owner_place : (m : List ℕ) (at : ℕ) (r : ResourceRecord) (mid : ℕ) (h : ResourceRecordAt m at r mid) (name : Labels) (owner : ℕ) → FullNameAt m at name owner → h.mid ≡ owner
@@ -89,17 +89,17 @@ owner_place m at r mid h name owner k = sym (name_unique m at name r.owner owner
 
 pub next_end : (m : List ℕ) (at : ℕ) (r : ResourceRecord) (mid : ℕ) (h : ResourceRecordAt m at r mid) (name : Labels) (owner size : ℕ) → FullNameAt m at name owner → NumberAt m (owner + 8) 2 size → NextEnd m at owner size r mid h
 next_end m at r mid h name owner size k c =
-    let place = owner_place m at r mid h name owner k in
-    let counted : h.rdlength ≡ size = number_once m (owner + 8) 2 h.rdlength size (subst (λ (x : ℕ). NumberAt m (x + 8) 2 h.rdlength) place h.counted) c in
-    record { place = place; end = h.last ∙ ap (λ (x : ℕ). x + 10 + h.rdlength) place ∙ ap (λ (x : ℕ). owner + 10 + x) counted }
+    let position = owner_place m at r mid h name owner k in
+    let counted : h.rdlength ≡ size = number_once m (owner + 8) 2 h.rdlength size (subst (λ (x : ℕ). NumberAt m (x + 8) 2 h.rdlength) position h.counted) c in
+    record { position = position; end = h.last ∙ ap (λ (x : ℕ). x + 10 + h.rdlength) position ∙ ap (λ (x : ℕ). owner + 10 + x) counted }
 
 pub items_within : (m : List ℕ) (at : ℕ) (rs : List ResourceRecord) (stop : ℕ) → at ≤ length m → ResourceRecordsAt m at rs stop → stop ≤ length m
 items_within m at [] stop here e = omega arith
 items_within m at (r ∷ rs) stop here (mid, first, behind) = items_within m mid rs stop (item_within m at r mid first) behind
 
 -- a section, as its header counts it
-abbrev pub section : (m : List ℕ) (place at n : ℕ) (rs : List ResourceRecord) (stop : ℕ) → at ≤ length m → ResourceRecordsAt m at rs stop → NumberAt m place 2 (length rs) → NumberAt m place 2 n → AreResourceRecordsLeft m at n
-section m place at n rs stop here stand counted number = record { items = rs; stop = stop; stand = stand; count = number_once m place 2 (length rs) n counted number; inside = here }
+abbrev pub section : (m : List ℕ) (position at n : ℕ) (rs : List ResourceRecord) (stop : ℕ) → at ≤ length m → ResourceRecordsAt m at rs stop → NumberAt m position 2 (length rs) → NumberAt m position 2 n → AreResourceRecordsLeft m at n
+section m position at n rs stop here stand counted number = record { items = rs; stop = stop; stand = stand; count = number_once m position 2 (length rs) n counted number; inside = here }
 
 pub message_of_view : (m : List ℕ) (r : Received) → received m ≡ r → (received m).message ≡ r.message
 message_of_view m r e = ap (λ (x : Received). x.message) e

@@ -52,7 +52,7 @@ pub record OneQuestion (m : List ℕ) (q : Question) (stop : ℕ) : Type 0 where
 pub one_question : (m : List ℕ) (q : Question) (stop : ℕ) → QuestionsAt m 12 (q ∷ []) stop → OneQuestion m q stop
 one_question m q stop (mid, first, e) =
     let last : mid ≡ first.mid + 4 = first.last in
-    let place : first.mid ≡ stop - 4 = omega (arith, last, e) in
+    let position : first.mid ≡ stop - 4 = omega (arith, last, e) in
     let inside : first.mid + 2 + 2 ≤ length m = first.qclass.inside in
     let one : question_shown m 12 first.mid ≡ q =
     ap (λ (n : Labels). record { name = n; qtype = number_of (slice_range m first.mid (first.mid + 2)); qclass = number_of (slice_range m (first.mid + 2) (first.mid + 2 + 2)) }) (viewed m 12 q.name first.mid first.name)
@@ -60,8 +60,8 @@ one_question m q stop (mid, first, e) =
     ∙ ap (λ (c : ℕ). record { name = q.name; qtype = q.qtype; qclass = c }) (sym first.qclass.read) in
     record {
       room = omega (arith, last, e);
-      shown = subst (λ (k : ℕ). IsQuestionShown m 12 k) place (record { name = q.name; stands = first.name; inside = omega arith });
-      is = subst (λ (k : ℕ). question_shown m 12 k ≡ q) place one;
+      shown = subst (λ (k : ℕ). IsQuestionShown m 12 k) position (record { name = q.name; stands = first.name; inside = omega arith });
+      is = subst (λ (k : ℕ). question_shown m 12 k ≡ q) position one;
     }
 
 pub only_of : (qs : List Question) → length qs ≡ 1 → (q : Question) × (qs ≡ q ∷ [])

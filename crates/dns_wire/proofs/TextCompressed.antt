@@ -97,14 +97,14 @@ parts_done text earlier places at (Values vs ∷ fields) rdata back form table u
     let after = compressed_fields places (at + octet_count vs) fields (drop (octet_count vs) rdata) in
     let p = piece text at (take (octet_count vs) rdata) (after.octets ++ back) (rest_as text at at ((take (octet_count vs) rdata ++ after.octets) ++ back) (take (octet_count vs) rdata ++ (after.octets ++ back)) refl (append_assoc (take (octet_count vs) rdata) after.octets back) h) in
     let width : length (take (octet_count vs) rdata) ≡ octet_count vs = length-take-le (octet_count vs) rdata (octets_room vs fields rdata form) in
-    let place : at + length (take (octet_count vs) rdata) ≡ at + octet_count vs = ap (λ (k : ℕ). at + k) width in
-    let more = parts_done text earlier places (at + octet_count vs) fields (drop (octet_count vs) rdata) back (octets_behind vs fields rdata form) table (under_more earlier at (at + octet_count vs) (omega arith) under) (rest_as text (at + length (take (octet_count vs) rdata)) (at + octet_count vs) (after.octets ++ back) (after.octets ++ back) place refl p.behind) in
+    let position : at + length (take (octet_count vs) rdata) ≡ at + octet_count vs = ap (λ (k : ℕ). at + k) width in
+    let more = parts_done text earlier places (at + octet_count vs) fields (drop (octet_count vs) rdata) back (octets_behind vs fields rdata form) table (under_more earlier at (at + octet_count vs) (omega arith) under) (rest_as text (at + length (take (octet_count vs) rdata)) (at + octet_count vs) (after.octets ++ back) (after.octets ++ back) position refl p.behind) in
     let stop : at + octet_count vs + length after.octets ≡ at + length (take (octet_count vs) rdata ++ after.octets) = omega (arith, width, length-append (take (octet_count vs) rdata) after.octets) in
     record {
       later = more.later;
       compressed = (
         at + octet_count vs,
-        subst (λ (k : ℕ). OctetsAt text at (take (octet_count vs) rdata) k) place p.here,
+        subst (λ (k : ℕ). OctetsAt text at (take (octet_count vs) rdata) k) position p.here,
         subst (λ (k : ℕ). PartsCompressed text earlier (at + octet_count vs) fields (drop (octet_count vs) rdata) k more.later) stop more.compressed,
       );
       table = more.table;

@@ -22,9 +22,9 @@ all_append places at (r ∷ rs) b =
     let here = compressed_record places at r in
     let after = compressed_all here.places (at + length here.octets) rs in
     let inner = all_append here.places (at + length here.octets) rs b in
-    let place : at + length here.octets + length after.octets ≡ at + length (here.octets ++ after.octets) = omega (arith, length-append here.octets after.octets) in
+    let position : at + length here.octets + length after.octets ≡ at + length (here.octets ++ after.octets) = omega (arith, length-append here.octets after.octets) in
     let there = compressed_all after.places (at + length here.octets + length after.octets) b in
-    let moved : there ≡ compressed_all after.places (at + length (here.octets ++ after.octets)) b = ap (λ (k : ℕ). compressed_all after.places k b) place in
+    let moved : there ≡ compressed_all after.places (at + length (here.octets ++ after.octets)) b = ap (λ (k : ℕ). compressed_all after.places k b) position in
     ap (λ (p : Compressing). record { octets = here.octets ++ p.octets; places = p.places }) inner
     ∙ ap (λ (xs : List ℕ). record { octets = xs; places = there.places }) (sym (append_assoc here.octets after.octets there.octets))
     ∙ ap (λ (p : Compressing). record { octets = (here.octets ++ after.octets) ++ p.octets; places = p.places }) moved
@@ -63,11 +63,11 @@ records_is r =
     let two = compressed_all one.places (n + length one.octets) r.authority in
     let both : Compressing = record { octets = one.octets ++ two.octets; places = two.places } in
     let same : compressed_all p n (r.answer ++ r.authority) ≡ both = all_append p n r.answer r.authority in
-    let place : n + length both.octets ≡ n + length one.octets + length two.octets = omega (arith, length-append one.octets two.octets) in
+    let position : n + length both.octets ≡ n + length one.octets + length two.octets = omega (arith, length-append one.octets two.octets) in
     all_records p n (r.answer ++ r.authority ++ r.additional)
     ∙ ap (λ (x : Compressing). x.octets) (all_append p n (r.answer ++ r.authority) r.additional)
     ∙ ap (λ (x : Compressing). x.octets ++ (compressed_all x.places (n + length x.octets) r.additional).octets) same
-    ∙ ap (λ (k : ℕ). both.octets ++ (compressed_all two.places k r.additional).octets) place
+    ∙ ap (λ (k : ℕ). both.octets ++ (compressed_all two.places k r.additional).octets) position
 
 pub text_is : (r : Reply) → text r ≡ (header_octets r ++ question_octets r) ++ (((first_all r).octets ++ (second_all r).octets) ++ (third_all r).octets)
 text_is r = ap (λ (xs : List ℕ). (header_octets r ++ question_octets r) ++ xs) (records_is r)

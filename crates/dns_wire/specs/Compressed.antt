@@ -30,7 +30,7 @@ pub record OccursAt (earlier : List Used) (offset : ℕ) (suffix : Labels) : Typ
   pub label : List ℕ
   pub rest : Labels
   pub name : field.name ≡ before ++ label ∷ rest
-  pub place : offset ≡ field.from + length (run_octets before)
+  pub position : offset ≡ field.from + length (run_octets before)
   pub inside : offset + 1 + length label < field.to
   pub is : suffix ≡ label ∷ rest
 

@@ -58,12 +58,12 @@ impl<'a> Target<'a> {
 /// The least offset at which a suffix occurs.
 fn place_of(places: &[Target<'_>], suffix: &[u8]) -> Option<usize>
     requires { IsPlain suffix.now }
-    ensures place { result ≡ offset_at places.now (labels_of suffix.now) }
+    ensures position { result ≡ offset_at places.now (labels_of suffix.now) }
     ensures low { IfSome result (λ offset. offset < 16384) }
 {
-    for place in places.iter() {
-        if place.is(suffix) {
-            return Some(place.offset);
+    for position in places.iter() {
+        if position.is(suffix) {
+            return Some(position.offset);
         }
     }
     None
@@ -73,7 +73,7 @@ fn place_of(places: &[Target<'_>], suffix: &[u8]) -> Option<usize>
 fn place_within(name: &[u8], suffix: &[u8]) -> Option<usize>
     requires name { IsPlain name.now }
     requires suffix { IsPlain suffix.now }
-    ensures place { result ≡ offset_at (new_places [] 12 (labels_of name.now)) (labels_of suffix.now) }
+    ensures position { result ≡ offset_at (new_places [] 12 (labels_of name.now)) (labels_of suffix.now) }
     ensures low { IfSome result (λ offset. offset < 16384) }
 {
     let mut at = 12;
@@ -236,8 +236,8 @@ impl<'a> Listed<'a> {
     #[inline(never)]
     fn find_or_keep(&mut self, offset: usize, suffix: &'a [u8]) -> Result<Option<usize>, AllocError>
         requires { IsPlain suffix.now }
-        ensures place { IfOk result (λ found. found ≡ offset_at self.old (labels_of suffix.now)) }
-        ensures low { IfOk result (λ found. IfSome found (λ place. place < 16384)) }
+        ensures position { IfOk result (λ found. found ≡ offset_at self.old (labels_of suffix.now)) }
+        ensures low { IfOk result (λ found. IfSome found (λ position. position < 16384)) }
         ensures kept { IfOk result
             (λ found. MatchOption found (self.new ≡ self.old ++ noted offset (labels_of suffix.now))
             (λ _. self.new ≡ self.old)) }
@@ -324,7 +324,7 @@ impl<'a> Places<'a> {
     /// that take memory.
     pub(crate) fn find(&self, suffix: &[u8]) -> Option<usize>
         requires { IsPlain suffix.now }
-        ensures place { IfSome result (λ found. Some found ≡ offset_at self.now (labels_of suffix.now)) }
+        ensures position { IfSome result (λ found. Some found ≡ offset_at self.now (labels_of suffix.now)) }
         ensures low { IfSome result (λ found. found < 16384) }
         ensures some { IfSome result (λ _. 1 < length suffix.now) }
     {
@@ -345,8 +345,8 @@ impl<'a> Places<'a> {
         suffix: &'a [u8],
     ) -> Result<Option<usize>, AllocError>
         requires { IsPlain suffix.now }
-        ensures place { IfOk result (λ found. found ≡ offset_at self.old (labels_of suffix.now)) }
-        ensures low { IfOk result (λ found. IfSome found (λ place. place < 16384)) }
+        ensures position { IfOk result (λ found. found ≡ offset_at self.old (labels_of suffix.now)) }
+        ensures low { IfOk result (λ found. IfSome found (λ position. position < 16384)) }
         ensures kept { IfOk result
             (λ found. MatchOption found (self.new ≡ self.old ++ noted offset (labels_of suffix.now))
             (λ _. self.new ≡ self.old)) }

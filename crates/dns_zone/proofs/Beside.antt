@@ -59,8 +59,8 @@ or_first : (b c : Bool) → b ≡ true → (b || c) ≡ true
 or_first true c e = refl
 or_first false c e = absurd cc
 
-later : (x : Record) (xs : List Record) (name : Labels) (place : ℕ) → IsPlaceOf name (x ∷ xs) (suc place) → IsPlaceOf name xs place
-later x xs name place h = record {
+later : (x : Record) (xs : List Record) (name : Labels) (position : ℕ) → IsPlaceOf name (x ∷ xs) (suc position) → IsPlaceOf name xs position
+later x xs name position h = record {
   inside = (let i = h.inside in omega (arith, i));
   before = λ k d from to. h.before (suc k) d (omega arith) (omega arith);
   behind = λ k d from to. h.behind (suc k) d (omega arith) (omega arith);
@@ -79,16 +79,16 @@ next_under x y ys name here order before u e =
     let low = not_less (λ (r : Record). name_cmp r.owner here) (key_cut (key.Owner here)) x y order (under_behind x.owner here e) in
     or_first (under y.owner here) (exists ys here) (convex y.owner name here low (inl (less_is (name_cmp y.owner name) before)) u)
 
-beside_at : (xs : List Record) (name here : Labels) (place : ℕ) → Sorted xs → IsPlaceOf name xs place → under name here ≡ true → is_owned_beside xs place here ≡ exists xs here
+beside_at : (xs : List Record) (name here : Labels) (position : ℕ) → Sorted xs → IsPlaceOf name xs position → under name here ≡ true → is_owned_beside xs position here ≡ exists xs here
 beside_at [] name here zero s h u = refl
-beside_at [] name here (suc place) s h u = absurd (let i = h.inside in omega (arith, i))
+beside_at [] name here (suc position) s h u = absurd (let i = h.inside in omega (arith, i))
 beside_at (x ∷ xs) name here zero s h u = or_false (under x.owner here) ∙ at_front (x ∷ xs) name here s h u
 beside_at (x ∷ xs) name here (suc zero) s h u =
     ap (λ (b : Bool). b || under x.owner here) (at_front xs name here s.1 (later x xs name 0 h) u) ∙ or_turned (exists xs here) (under x.owner here)
-beside_at (x ∷ []) name here (suc (suc place)) s h u = absurd (let i = h.inside in omega (arith, i))
-beside_at (x ∷ y ∷ ys) name here (suc (suc place)) s h u =
-    let rest = beside_at (y ∷ ys) name here (suc place) s.1 (later x (y ∷ ys) name (suc place) h) u in
-    steps place ∙ rest
+beside_at (x ∷ []) name here (suc (suc position)) s h u = absurd (let i = h.inside in omega (arith, i))
+beside_at (x ∷ y ∷ ys) name here (suc (suc position)) s h u =
+    let rest = beside_at (y ∷ ys) name here (suc position) s.1 (later x (y ∷ ys) name (suc position) h) u in
+    steps position ∙ rest
     ∙ or_kept (under x.owner here) (exists (y ∷ ys) here) (next_under x y ys name here s.0.0 (h.before 1 y (omega arith) (omega arith)) u)
   where
     steps : (p : ℕ) → is_owned_beside (x ∷ y ∷ ys) (suc (suc p)) here ≡ is_owned_beside (y ∷ ys) (suc p) here
@@ -100,18 +100,18 @@ beside_at (x ∷ y ∷ ys) name here (suc (suc place)) s h u =
         less : (p : ℕ) → suc (suc p) - 1 ≡ suc (suc p - 1)
         less p = omega arith
 
-pub beside_is : (xs : List Record) (name here : Labels) (place : ℕ) → is_ordered xs ≡ true → IsPlaceOf name xs place → under name here ≡ true → is_owned_beside xs place here ≡ exists xs here
-beside_is xs name here place order h u = beside_at xs name here place (sorted_from xs order) h u
+pub beside_is : (xs : List Record) (name here : Labels) (position : ℕ) → is_ordered xs ≡ true → IsPlaceOf name xs position → under name here ≡ true → is_owned_beside xs position here ≡ exists xs here
+beside_is xs name here position order h u = beside_at xs name here position (sorted_from xs order) h u
 
 abbrev owned : Labels → Option Record → Bool
 owned n o = elim o [ Some r ↦ under r.owner n | None ↦ false ]
 
 -- the owner at the position of a name tells whether it exists
-pub place_tells : (xs : List Record) (name : Labels) (place : ℕ) → is_ordered xs ≡ true → IsPlaceOf name xs place → is_owned_at xs place name ≡ exists xs name
-place_tells xs name place order h = elim (told_nat place (length xs)) [
-  | inl inside ↦ (let there = slice_get_found xs place inside in
-      ap (owned name) there.1 ∙ exists_some xs name place there.0 (sorted_from xs order) inside h.before h.behind there.2)
-  | inr past ↦ ap (owned name) (slice_get_past xs place past) ∙ exists_none xs name place past h.before
+pub place_tells : (xs : List Record) (name : Labels) (position : ℕ) → is_ordered xs ≡ true → IsPlaceOf name xs position → is_owned_at xs position name ≡ exists xs name
+place_tells xs name position order h = elim (told_nat position (length xs)) [
+  | inl inside ↦ (let there = slice_get_found xs position inside in
+      ap (owned name) there.1 ∙ exists_some xs name position there.0 (sorted_from xs order) inside h.before h.behind there.2)
+  | inr past ↦ ap (owned name) (slice_get_past xs position past) ∙ exists_none xs name position past h.before
 ]
   where
     slice_get_found : (ys : List Record) (k : ℕ) → k < length ys → (r : Record) × (slice_get ys k ≡ Some r) × (r ≡ get_or ys k r)
@@ -119,5 +119,5 @@ place_tells xs name place order h = elim (told_nat place (length xs)) [
     slice_get_found (y ∷ ys) zero lt = (y, refl, refl)
     slice_get_found (y ∷ ys) (suc k) lt = slice_get_found ys k (omega (arith, lt))
 
-pub place_from : (name n : Labels) (xs : List Record) (place : ℕ) → n ≡ name → place ≤ length xs → AllWithin (λ r. is_lt (name_cmp r.owner n) ≡ true) xs 0 place → AllWithin (λ r. is_lt (name_cmp r.owner n) ≡ false) xs place (length xs) → IsPlaceOf name xs place
-place_from name n xs place e inside f g = subst (λ (x : Labels). IsPlaceOf x xs place) e (record { inside = inside; before = f; behind = g })
+pub place_from : (name n : Labels) (xs : List Record) (position : ℕ) → n ≡ name → position ≤ length xs → AllWithin (λ r. is_lt (name_cmp r.owner n) ≡ true) xs 0 position → AllWithin (λ r. is_lt (name_cmp r.owner n) ≡ false) xs position (length xs) → IsPlaceOf name xs position
+place_from name n xs position e inside f g = subst (λ (x : Labels). IsPlaceOf x xs position) e (record { inside = inside; before = f; behind = g })

@@ -23,16 +23,16 @@ pub record BelongsAt (r : Record) (records : List Record) (at : ℕ) : Type 0 wh
   pub without_is : without r records ≡ records
 
 -- The position of a name: so many records precede it.
-pub record IsPlaceOf (name : Labels) (records : List Record) (place : ℕ) : Type 0 where
-  pub inside : place ≤ length records
-  pub before : AllWithin (λ r. is_lt (name_cmp r.owner name) ≡ true) records 0 place
-  pub behind : AllWithin (λ r. is_lt (name_cmp r.owner name) ≡ false) records place (length records)
+pub record IsPlaceOf (name : Labels) (records : List Record) (position : ℕ) : Type 0 where
+  pub inside : position ≤ length records
+  pub before : AllWithin (λ r. is_lt (name_cmp r.owner name) ≡ true) records 0 position
+  pub behind : AllWithin (λ r. is_lt (name_cmp r.owner name) ≡ false) records position (length records)
 
 -- The record at a position has an owner at the name or under it.
 abbrev pub is_owned_at : List Record → ℕ → Labels → Bool
-is_owned_at records place name = elim (slice_get records place) [ Some r ↦ under r.owner name | None ↦ false ]
+is_owned_at records position name = elim (slice_get records position) [ Some r ↦ under r.owner name | None ↦ false ]
 
 -- One of the two records on either side of a position has.
 abbrev pub is_owned_beside : List Record → ℕ → Labels → Bool
-is_owned_beside records place name =
-    is_owned_at records place name || nat_lt 0 place && is_owned_at records (place - 1) name
+is_owned_beside records position name =
+    is_owned_at records position name || nat_lt 0 position && is_owned_at records (position - 1) name

@@ -4,4 +4,4 @@ use Rattle.dns_records.specs.Record.{Record}
 
 -- These records follow one another from the position on.
 abbrev pub IsRun : List Record → ℕ → List Record → Type 0
-IsRun records place run = (rest : List Record) × (drop place records ≡ run ++ rest)
+IsRun records position run = (rest : List Record) × (drop position records ≡ run ++ rest)

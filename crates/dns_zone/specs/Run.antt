@@ -22,7 +22,7 @@ set_after set (Remove r) = without r set
 set_after set (Clear name) = others set name
 set_after set (Alone name rtype) = united (others set name) (rrset set name rtype)
 set_after set (Walk after) = set
-set_after set (From place) = set
+set_after set (From position) = set
 set_after set (Match apex name) = set
 set_after set (Fork r) = set
 
@@ -48,7 +48,7 @@ reply_of set (Remove r) = Found (has r set)
 reply_of set (Clear name) = Done
 reply_of set (Alone name rtype) = Done
 reply_of set (Walk after) = Next (next_after after set)
-reply_of set (From place) = Held (drop place set)
+reply_of set (From position) = Held (drop position set)
 reply_of set (Match apex name) = matched (record { apex = apex; records = set }) name
 reply_of set (Fork r) = Held (records_at (put r set) r.owner)
 

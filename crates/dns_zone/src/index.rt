@@ -75,11 +75,11 @@ pub trait ZoneIndex: Drop {
     fn len(&self) -> usize
         ensures { result ≡ length (records self.now) };
 
-    /// Successive records from position `place` on, as many as the set can lend in one piece, and none only
+    /// Successive records from position `position` on, as many as the set can lend in one piece, and none only
     /// where none is left.
-    fn run_from(&self, place: usize) -> &[Record]
-        ensures run { IsRun (records self.now) place result.now }
-        ensures some { result.now ≡ [] → drop place (records self.now) ≡ [] };
+    fn run_from(&self, position: usize) -> &[Record]
+        ensures run { IsRun (records self.now) position result.now }
+        ensures some { result.now ≡ [] → drop position (records self.now) ≡ [] };
 
     /// The first record, or the first after one.
     fn walk(&self, after: Option<&Record>) -> Option<&Record>

@@ -110,11 +110,11 @@ fn next<I: ZoneIndex>(index: &I, after: Option<&Record>) -> Result<Reply, AllocE
 }
 
 /// Copies of the records from a position on.
-fn copies_from<I: ZoneIndex>(alloc: Heap, index: &I, place: usize) -> Result<Copies, AllocError>
-    ensures { IfOk result (λ copies. copies ≡ drop place (I.records index.now)) }
+fn copies_from<I: ZoneIndex>(alloc: Heap, index: &I, position: usize) -> Result<Copies, AllocError>
+    ensures { IfOk result (λ copies. copies ≡ drop position (I.records index.now)) }
 {
     let mut items = Vec::new(alloc);
-    for record in Records::from_place(index, place) {
+    for record in Records::from_place(index, position) {
         items.push(record.clone()?)?;
     }
     Ok(Copies { items })
@@ -212,7 +212,7 @@ fn call<I: ZoneIndex>(alloc: Heap, index: &mut I, command: &Command) -> Result<R
             Ok(Reply::Done)
         }
         Command::Walk(after) => next(index, after.as_ref()),
-        Command::From(place) => Ok(Reply::Held(copies_from(alloc, index, *place)?)),
+        Command::From(position) => Ok(Reply::Held(copies_from(alloc, index, *position)?)),
         Command::Match(apex, name) => reply_of_match(
             alloc,
             index.find_node(&apex.lend(), &name.lend()),

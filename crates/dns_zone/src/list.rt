@@ -151,8 +151,8 @@ impl ZoneIndex for RecordList {
         self.items.len()
     }
 
-    fn run_from(&self, place: usize) -> &[Record] {
-        &self.items[place.min(self.items.len())..]
+    fn run_from(&self, position: usize) -> &[Record] {
+        &self.items[position.min(self.items.len())..]
     }
 
     fn walk(&self, after: Option<&Record>) -> Option<&Record> {

@@ -17,11 +17,11 @@ use dns_names::NameRef;
 use dns_records::{Record, types};
 
 /// Whether the record at the position has an owner at the name or under it.
-fn is_owned_at(records: &[Record], place: usize, name: &NameRef<'_>) -> bool
-    ensures { result ≡ is_owned_at records.now place name.now }
+fn is_owned_at(records: &[Record], position: usize, name: &NameRef<'_>) -> bool
+    ensures { result ≡ is_owned_at records.now position name.now }
 {
-    if place < records.len() {
-        return records[place].owner().lend().is_under(name);
+    if position < records.len() {
+        return records[position].owner().lend().is_under(name);
     }
     false
 }
@@ -39,13 +39,13 @@ pub(crate) fn records_near<'s>(
 }
 
 /// The records that the name owns, where its position is known.
-fn records_from<'s>(records: &'s [Record], name: &NameRef<'_>, place: usize) -> &'s [Record]
+fn records_from<'s>(records: &'s [Record], name: &NameRef<'_>, position: usize) -> &'s [Record]
     requires order { is_ordered records.now ≡ true }
-    requires place { IsPlaceOf name.now records.now place }
+    requires position { IsPlaceOf name.now records.now position }
     ensures { result.now ≡ records_at records.now name.now }
 {
     let key = Key::Owner(name.reborrow());
-    &records[place..end_of_match(records, &key, place)]
+    &records[position..end_of_match(records, &key, position)]
 }
 
 /// Whether the name is under the other and is not the other.
@@ -57,13 +57,13 @@ fn is_below(name: &NameRef<'_>, other: &NameRef<'_>) -> bool
 
 /// The closest encloser of a name that doesn't exist, by the owners on either side of its position (RFC 4592
 /// section 3.3.1).
-fn closest_encloser<'n>(records: &[Record], name: &NameRef<'n>, place: usize) -> NameRef<'n>
+fn closest_encloser<'n>(records: &[Record], name: &NameRef<'n>, position: usize) -> NameRef<'n>
     requires order { is_ordered records.now ≡ true }
-    requires place { IsPlaceOf name.now records.now place }
+    requires position { IsPlaceOf name.now records.now position }
     ensures { result ≡ encloser records.now name.now }
 {
     let mut here = name.reborrow();
-    'ancestors: while !is_owned_beside(records, place, &here) {
+    'ancestors: while !is_owned_beside(records, position, &here) {
         match here.parent() {
             Some(above) => here = above,
             None => return here,
@@ -73,10 +73,11 @@ fn closest_encloser<'n>(records: &[Record], name: &NameRef<'n>, place: usize) ->
 }
 
 /// Whether one of the two records on either side of a position has an owner at the name or under it.
-fn is_owned_beside(records: &[Record], place: usize, name: &NameRef<'_>) -> bool
-    ensures { result ≡ is_owned_beside records.now place name.now }
+fn is_owned_beside(records: &[Record], position: usize, name: &NameRef<'_>) -> bool
+    ensures { result ≡ is_owned_beside records.now position name.now }
 {
-    is_owned_at(records, place, name) || (place > 0 && is_owned_at(records, place - 1, name))
+    is_owned_at(records, position, name)
+        || (position > 0 && is_owned_at(records, position - 1, name))
 }
 
 /// Whether the zone is cut at a name under its apex that owns these records: there is an NS (RFC 1034
@@ -154,17 +155,17 @@ fn match_owner<'n, 's>(
     records: &'s [Record],
     apex: &NameRef<'_>,
     name: &NameRef<'n>,
-    place: usize,
+    position: usize,
 ) -> Match<'n, 's>
     requires order { is_ordered records.now ≡ true }
-    requires place { IsPlaceOf name.now records.now place }
+    requires position { IsPlaceOf name.now records.now position }
     requires there { exists records.now name.now ≡ true }
     ensures { IsMatch (record { apex = apex.now; records = records.now }) name.now result }
 {
-    if let Some((cut, owned)) = cut_above(records, apex, name, place) {
+    if let Some((cut, owned)) = cut_above(records, apex, name, position) {
         return Match::Cut(cut, owned);
     }
-    let owned = records_from(records, name, place);
+    let owned = records_from(records, name, position);
     if is_cut(apex, name, owned) {
         return Match::Cut(name.reborrow(), owned);
     }
@@ -199,9 +200,9 @@ fn wildcard_near<'s>(
 {
     let octets = starred(above);
     let source = NameRef::over(octets.as_slice());
-    let place = count_before(records, &Key::Owner(source.reborrow()), Some(near));
-    if is_owned_at(records, place, &source) {
-        return Some(records_from(records, &source, place));
+    let position = count_before(records, &Key::Owner(source.reborrow()), Some(near));
+    if is_owned_at(records, position, &source) {
+        return Some(records_from(records, &source, position));
     }
     None
 }
@@ -211,21 +212,21 @@ fn match_encloser<'n, 's>(
     records: &'s [Record],
     apex: &NameRef<'_>,
     name: &NameRef<'n>,
-    place: usize,
+    position: usize,
 ) -> Match<'n, 's>
     requires order { is_ordered records.now ≡ true }
-    requires place { IsPlaceOf name.now records.now place }
+    requires position { IsPlaceOf name.now records.now position }
     requires absent { exists records.now name.now ≡ false }
     ensures { IsMatch (record { apex = apex.now; records = records.now }) name.now result }
 {
     // The encloser is another name above it, so that the label has room before it.
     let _valid = name.as_wire();
-    let above = closest_encloser(records, name, place);
-    if let Some((cut, owned)) = shortest_cut(records, apex, &above, place) {
+    let above = closest_encloser(records, name, position);
+    if let Some((cut, owned)) = shortest_cut(records, apex, &above, position) {
         return Match::Cut(cut, owned);
     }
     // In the order of names a wildcard comes soon after its encloser, and the apex comes first.
-    let near = if above.is(apex) { 0 } else { place };
+    let near = if above.is(apex) { 0 } else { position };
     match wildcard_near(records, &above, near) {
         Some(owned) => Match::Wildcard(above, owned),
         None => Match::Nothing,
@@ -237,8 +238,8 @@ pub(crate) fn exists(records: &[Record], name: &NameRef<'_>) -> bool
     requires { is_ordered records.now ≡ true }
     ensures { result ≡ exists records.now name.now }
 {
-    let place = count_before(records, &Key::Owner(name.reborrow()), None);
-    is_owned_at(records, place, name)
+    let position = count_before(records, &Key::Owner(name.reborrow()), None);
+    is_owned_at(records, position, name)
 }
 
 /// What the zone of that apex has for a name.
@@ -250,9 +251,9 @@ pub(crate) fn find_node<'n, 's>(
     requires { is_ordered records.now ≡ true }
     ensures { IsMatch (record { apex = apex.now; records = records.now }) name.now result }
 {
-    let place = count_before(records, &Key::Owner(name.reborrow()), None);
-    if is_owned_at(records, place, name) {
-        return match_owner(records, apex, name, place);
+    let position = count_before(records, &Key::Owner(name.reborrow()), None);
+    if is_owned_at(records, position, name) {
+        return match_owner(records, apex, name, position);
     }
-    match_encloser(records, apex, name, place)
+    match_encloser(records, apex, name, position)
 }

@@ -13,7 +13,7 @@ use std::marker::Model;
 pub struct Records<'a, I: ZoneIndex> {
     index: &'a I,
     len: usize,
-    place: usize,
+    position: usize,
     run: &'a [Record],
 }
 
@@ -24,10 +24,10 @@ impl<'a, I: ZoneIndex> Model for Records<'a, I> {
 
     ghost Value = { List Stated };
 
-    ghost view = { λ r. drop r.place (I.records r.index.now) };
+    ghost view = { λ r. drop r.position (I.records r.index.now) };
 
     ghost invariant = { λ r. (r.len ≡ length (I.records r.index.now))
-        × IsRun (I.records r.index.now) r.place r.run.now };
+        × IsRun (I.records r.index.now) r.position r.run.now };
 }
 
 impl<'a, I: ZoneIndex> Records<'a, I> {
@@ -38,14 +38,14 @@ impl<'a, I: ZoneIndex> Records<'a, I> {
         Records::from_place(index, 0)
     }
 
-    /// The records from position `place` on: where so many were taken, those that are left.
-    pub fn from_place(index: &'a I, place: usize) -> Records<'a, I>
-        ensures { result ≡ drop place (I.records index.now) }
+    /// The records from position `position` on: where so many were taken, those that are left.
+    pub fn from_place(index: &'a I, position: usize) -> Records<'a, I>
+        ensures { result ≡ drop position (I.records index.now) }
     {
         Records {
             index,
             len: index.len(),
-            place,
+            position,
             run: &[],
         }
     }
@@ -56,7 +56,7 @@ impl<'a, I: ZoneIndex> Records<'a, I> {
         ensures some { result.now ≡ [] → self.now ≡ [] }
     {
         if self.run.is_empty() {
-            return self.index.run_from(self.place);
+            return self.index.run_from(self.position);
         }
         self.run
     }
@@ -72,7 +72,7 @@ impl<'a, I: ZoneIndex> Iterator for Records<'a, I> {
     fn next(&mut self) -> Option<&'a Record> {
         let (first, rest) = self.front().split_first()?;
         self.run = rest;
-        self.place += 1;
+        self.position += 1;
         Some(first)
     }
 }

@@ -13,40 +13,40 @@ use Rattle.dns_zoneindex.specs.Lent.{IsLent, IsThere}
 use Rattle.dns_zoneindex.proofs.Slots.{joined-append}
 use Rattle.dns_zoneindex.specs.Owned.{path_records}
 
-pub lent_front : (rs more : List Record) (place : ℕ) → place < length rs → IsLent (rs ++ more) place (drop place rs)
-lent_front rs more place inside = record {
-  run = (more, drop-append-le place rs more (omega arith));
-  some = λ h. omega (arith, length-drop place rs, inside);
+pub lent_front : (rs more : List Record) (position : ℕ) → position < length rs → IsLent (rs ++ more) position (drop position rs)
+lent_front rs more position inside = record {
+  run = (more, drop-append-le position rs more (omega arith));
+  some = λ h. omega (arith, length-drop position rs, inside);
 }
 
-pub lent_left : (a b : List Record) (place : ℕ) (run : List Record) → place < length a → IsLent a place run → IsLent (a ++ b) place run
-lent_left a b place run inside h = record {
-  run = (h.run.0 ++ b, drop-append-le place a b (omega arith) ∙ ap (λ z. z ++ b) h.run.1 ∙ append_assoc run h.run.0 b);
+pub lent_left : (a b : List Record) (position : ℕ) (run : List Record) → position < length a → IsLent a position run → IsLent (a ++ b) position run
+lent_left a b position run inside h = record {
+  run = (h.run.0 ++ b, drop-append-le position a b (omega arith) ∙ ap (λ z. z ++ b) h.run.1 ∙ append_assoc run h.run.0 b);
   some = λ k. h.some inside;
 }
 
-pub lent_right : (a b : List Record) (place : ℕ) (run : List Record) → length a ≤ place → IsLent b (place - length a) run → IsLent (a ++ b) place run
-lent_right a b place run past h =
-    let at : place ≡ length a + (place - length a) = omega arith in
+pub lent_right : (a b : List Record) (position : ℕ) (run : List Record) → length a ≤ position → IsLent b (position - length a) run → IsLent (a ++ b) position run
+lent_right a b position run past h =
+    let at : position ≡ length a + (position - length a) = omega arith in
     record {
-      run = (h.run.0, ap (λ n. drop n (a ++ b)) at ∙ drop-append-add a b (place - length a) ∙ h.run.1);
+      run = (h.run.0, ap (λ n. drop n (a ++ b)) at ∙ drop-append-add a b (position - length a) ∙ h.run.1);
       some = λ k. h.some (omega (arith, k, length-append a b));
     }
 
 -- after so many
-pub lent_past : (a b : List Record) (place k : ℕ) (run : List Record) → length a ≡ k → k ≤ place → IsLent b (place - k) run → IsLent (a ++ b) place run
-lent_past a b place k run e past h = lent_right a b place run (omega arith) (subst (λ n. IsLent b (place - n) run) (sym e) h)
+pub lent_past : (a b : List Record) (position k : ℕ) (run : List Record) → length a ≡ k → k ≤ position → IsLent b (position - k) run → IsLent (a ++ b) position run
+lent_past a b position k run e past h = lent_right a b position run (omega arith) (subst (λ n. IsLent b (position - n) run) (sym e) h)
 
 -- the end of a slice
-slice_end : (rs : List Record) (place : ℕ) → take (length rs - place) (drop place rs) ≡ drop place rs
-slice_end rs place = ap (λ n. take n (drop place rs)) (sym (length-drop place rs)) ∙ take-all (drop place rs)
+slice_end : (rs : List Record) (position : ℕ) → take (length rs - position) (drop position rs) ≡ drop position rs
+slice_end rs position = ap (λ n. take n (drop position rs)) (sym (length-drop position rs)) ∙ take-all (drop position rs)
   where
     take-all : (xs : List Record) → take (length xs) xs ≡ xs
     take-all [] = refl
     take-all (x ∷ xs) = ap (λ z. x ∷ z) (take-all xs)
 
-pub lent_slice : (rs more : List Record) (place : ℕ) → place < length rs → IsLent (rs ++ more) place (take (length rs - place) (drop place rs))
-lent_slice rs more place inside = subst (IsLent (rs ++ more) place) (sym (slice_end rs place)) (lent_front rs more place inside)
+pub lent_slice : (rs more : List Record) (position : ℕ) → position < length rs → IsLent (rs ++ more) position (take (length rs - position) (drop position rs))
+lent_slice rs more position inside = subst (IsLent (rs ++ more) position) (sym (slice_end rs position)) (lent_front rs more position inside)
 
 -- the records of entries
 pub records_pushed : (l : List ℕ) (own : List PathRecord) → path_records (map (pushed l) own) ≡ path_records own
@@ -78,30 +78,30 @@ front_of [] (suc n) = refl
 front_of (x ∷ xs) zero = refl
 front_of (x ∷ xs) (suc n) = front_of xs n
 
-pub lent_first : (xs : List Record) (place : ℕ) (lent : List Record) → IsLent xs place lent → slice_get lent 0 ≡ slice_get xs place
-lent_first xs place [] h = elim (told_nat place (length xs)) [
+pub lent_first : (xs : List Record) (position : ℕ) (lent : List Record) → IsLent xs position lent → slice_get lent 0 ≡ slice_get xs position
+lent_first xs position [] h = elim (told_nat position (length xs)) [
   | inl lt ↦ absurd (omega (arith, h.some lt))
-  | inr ge ↦ sym (slice_get_past xs place ge)
+  | inr ge ↦ sym (slice_get_past xs position ge)
 ]
-lent_first xs place (r ∷ rest) h = sym (front_of xs place ∙ ap (λ z. slice_get z 0) h.run.1)
+lent_first xs position (r ∷ rest) h = sym (front_of xs position ∙ ap (λ z. slice_get z 0) h.run.1)
 
 -- a run within a slot
-pub lent_there : (slots : List (List Child)) (place : ℕ) (slot : List Child) (left : ℕ) (run : List Record) → IsThere slots place slot left
+pub lent_there : (slots : List (List Child)) (position : ℕ) (slot : List Child) (left : ℕ) (run : List Record) → IsThere slots position slot left
     → IsLent (path_records (flat slot)) left run
-    → IsLent (path_records (flat (joined slots))) place run
-lent_there slots place slot left run h lent =
+    → IsLent (path_records (flat (joined slots))) position run
+lent_there slots position slot left run h lent =
     let a = path_records (flat (joined h.front)) in
     let b = path_records (flat slot) in
     let d = path_records (flat (joined h.back)) in
     let before : length a ≡ length (flat (joined h.front)) = records_count (flat (joined h.front)) in
     let inside : left < length b = omega (arith, h.within, records_count (flat slot)) in
-    let at : left ≡ place - length (flat (joined h.front)) = omega (arith, h.before) in
+    let at : left ≡ position - length (flat (joined h.front)) = omega (arith, h.before) in
     let is : path_records (flat (joined slots)) ≡ a ++ (b ++ d) =
     ap (λ x. path_records (flat x)) (ap joined h.whole ∙ joined-append h.front (slot ∷ h.back))
     ∙ records_joined (joined h.front) (slot ++ joined h.back)
     ∙ ap (λ z. a ++ z) (records_joined slot (joined h.back)) in
-    subst (λ x. IsLent x place run) (sym is)
-    (lent_past a (b ++ d) place (length (flat (joined h.front))) run before (omega (arith, h.before))
+    subst (λ x. IsLent x position run) (sym is)
+    (lent_past a (b ++ d) position (length (flat (joined h.front))) run before (omega (arith, h.before))
     (subst (λ n. IsLent (b ++ d) n run) at (lent_left b d left run inside lent)))
 
 pub first_record : (xs : List Record) → slice_get xs 0 ≡ next_after None xs

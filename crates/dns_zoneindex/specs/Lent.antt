@@ -6,18 +6,18 @@ use Rattle.dns_zoneindex.specs.Entries.{Child, flat}
 use Rattle.dns_zoneindex.specs.Children.{joined}
 
 -- The run starts at this index, and has a record where one is left.
-pub record IsLent (records : List Record) (place : ℕ) (lent : List Record) : Type 0 where
-  pub run : IsRun records place lent
-  pub some : place < length records → 0 < length lent
+pub record IsLent (records : List Record) (position : ℕ) (lent : List Record) : Type 0 where
+  pub run : IsRun records position lent
+  pub some : position < length records → 0 < length lent
 
 -- The index among the records of all slots is another index among those of one of them.
-pub record IsThere (slots : List (List Child)) (place : ℕ) (slot : List Child) (left : ℕ) : Type 0 where
+pub record IsThere (slots : List (List Child)) (position : ℕ) (slot : List Child) (left : ℕ) : Type 0 where
   pub front : List (List Child)
   pub back : List (List Child)
   pub whole : slots ≡ front ++ slot ∷ back
-  pub before : place ≡ length (flat (joined front)) + left
+  pub before : position ≡ length (flat (joined front)) + left
   pub within : left < length (flat slot)
 
 -- The index is past the records of all slots.
 abbrev pub IsBeyond : List (List Child) → ℕ → Type 0
-IsBeyond slots place = length (flat (joined slots)) ≤ place
+IsBeyond slots position = length (flat (joined slots)) ≤ position

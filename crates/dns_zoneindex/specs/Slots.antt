@@ -14,12 +14,12 @@ is_before label (c ∷ rest) = is_lt (label_cmp label c.label)
 
 -- All children of the slots before this index sort before the label, and all children of the slots after it
 -- sort after the label.
-pub record IsPlace (label : List ℕ) (slots : List (List Child)) (place : ℕ) : Type 0 where
-  pub there : place < length slots
-  pub ahead : AllChildren (λ c. label_cmp label c.label ≡ Greater) (joined (take place slots))
-  pub behind : AllChildren (λ c. label_cmp label c.label ≡ Less) (joined (drop (suc place) slots))
+pub record IsPlace (label : List ℕ) (slots : List (List Child)) (position : ℕ) : Type 0 where
+  pub there : position < length slots
+  pub ahead : AllChildren (λ c. label_cmp label c.label ≡ Greater) (joined (take position slots))
+  pub behind : AllChildren (λ c. label_cmp label c.label ≡ Less) (joined (drop (suc position) slots))
 
 -- The child of the label is among those of the slot at this index, if there is one.
-pub record IsFoundAt (label : List ℕ) (slots : List (List Child)) (place : ℕ) : Type 0 where
-  pub there : place < length slots
-  pub found : (s : List Child) → slice_get slots place ≡ Some s → child_of label s ≡ child_of label (joined slots)
+pub record IsFoundAt (label : List ℕ) (slots : List (List Child)) (position : ℕ) : Type 0 where
+  pub there : position < length slots
+  pub found : (s : List Child) → slice_get slots position ≡ Some s → child_of label s ≡ child_of label (joined slots)

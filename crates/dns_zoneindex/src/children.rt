@@ -114,8 +114,8 @@ impl Children {
                         whole,
                         ..
                     } = &**group;
-                    let place = place_to_find(keys, slots, *skip, *whole, key, label);
-                    here = &slots[place].children;
+                    let position = place_to_find(keys, slots, *skip, *whole, key, label);
+                    here = &slots[position].children;
                 }
             }
         }
@@ -149,9 +149,9 @@ impl Children {
                     skip,
                     ..
                 } = &**group;
-                let place = place_of(keys, slots, *skip, node.key(), node.label());
-                let come = slots[place].children.put(alloc, node)?;
-                gathered(alloc, replaced(alloc, slots, place, come)?)
+                let position = place_of(keys, slots, *skip, node.key(), node.label());
+                let come = slots[position].children.put(alloc, node)?;
+                gathered(alloc, replaced(alloc, slots, position, come)?)
             }
         }
     }
@@ -176,9 +176,9 @@ impl Children {
                     skip,
                     ..
                 } = &**group;
-                let place = place_of(keys, slots, *skip, key_of(label), label);
-                let rest = slots[place].children.without(alloc, label)?;
-                gathered(alloc, replaced(alloc, slots, place, rest)?)
+                let position = place_of(keys, slots, *skip, key_of(label), label);
+                let rest = slots[position].children.without(alloc, label)?;
+                gathered(alloc, replaced(alloc, slots, position, rest)?)
             }
         }
     }

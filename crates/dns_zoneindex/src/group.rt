@@ -138,11 +138,11 @@ fn keys_of(skip: u8, slots: &[Slot]) -> [u64; MOST]
     ensures { AreKeys skip result slots.now }
 {
     let mut keys = [u64::MAX; MOST];
-    'keys: for place in 0..MOST {
-        let Some(slot) = slots.get(place) else {
+    'keys: for position in 0..MOST {
+        let Some(slot) = slots.get(position) else {
             return keys;
         };
-        keys[place] = slot.key_after(skip);
+        keys[position] = slot.key_after(skip);
     }
     keys
 }
@@ -202,17 +202,17 @@ fn place_by_halves(slots: &[Slot], key: u64, label: &[u8]) -> usize
     requires kept { AreChildren (joined slots.now) }
     ensures { IsPlace label.now slots.now result }
 {
-    let mut place = 0;
+    let mut position = 0;
     let mut end = slots.len();
-    'halves: while place + 1 < end {
-        let middle = place + (end - place) / 2;
+    'halves: while position + 1 < end {
+        let middle = position + (end - position) / 2;
         if slots[middle].is_behind(key, label) {
             end = middle;
         } else {
-            place = middle;
+            position = middle;
         }
     }
-    place
+    position
 }
 
 /// Whether a label sorts after the first of the slot at an index, if it begins like that. The keys determine
@@ -221,29 +221,29 @@ fn place_by_halves(slots: &[Slot], key: u64, label: &[u8]) -> usize
 fn is_past(
     keys: &[u64; MOST],
     slots: &[Slot],
-    place: usize,
+    position: usize,
     skip: u8,
     key: u64,
     label: &[u8],
 ) -> bool
     requires keys { AreKeys skip keys.now slots.now }
     requires key { IsKey key (drop skip label.now) }
-    requires there { place < length slots.now }
+    requires there { position < length slots.now }
     requires full { AllFull slots.now }
     requires kept { AreChildren (joined slots.now) }
     ensures { result ≡ true → AllBegin skip label.now (drop 1 slots.now)
-        → AllChildren (λ c. label_cmp label.now c.label ≡ Greater) (joined (take place slots.now)) }
+        → AllChildren (λ c. label_cmp label.now c.label ≡ Greater) (joined (take position slots.now)) }
 {
-    if place == 0 {
+    if position == 0 {
         return true;
     }
-    let Some(own) = keys.get(place) else {
+    let Some(own) = keys.get(position) else {
         return false;
     };
     if *own != key {
         return *own < key;
     }
-    !slots[place].is_behind_alike(skip, label)
+    !slots[position].is_behind_alike(skip, label)
 }
 
 /// The index of the slot that holds the child of a label, or would hold it, if the label begins like those
@@ -264,17 +264,17 @@ fn place_by_keys(
     requires full { AllFull slots.now }
     requires kept { AreChildren (joined slots.now) }
     ensures there { result < length slots.now }
-    ensures place { AllBegin skip label.now (drop 1 slots.now) → IsPlace label.now slots.now result }
+    ensures position { AllBegin skip label.now (drop 1 slots.now) → IsPlace label.now slots.now result }
 {
-    let place = last_up_to(keys, key);
-    if place < slots.len() && is_past(keys, slots, place, skip, key, label) {
-        let next = place + 1;
+    let position = last_up_to(keys, key);
+    if position < slots.len() && is_past(keys, slots, position, skip, key, label) {
+        let next = position + 1;
         if next == slots.len() {
-            return place;
+            return position;
         }
         if let Some(behind) = keys.get(next) {
             if key < *behind {
-                return place;
+                return position;
             }
         }
     }
@@ -362,18 +362,18 @@ fn push_shared(made: &mut Vec<Slot, Heap>, slots: &[Slot]) -> Result<(), AllocEr
 pub(crate) fn replaced(
     alloc: Heap,
     slots: &[Slot],
-    place: usize,
+    position: usize,
     come: Vec<Slot, Heap>,
 ) -> Result<Vec<Slot, Heap>, AllocError>
-    requires { place < length slots.now }
+    requires { position < length slots.now }
     ensures { IfOk result
-        (λ made. made.items ≡ take place slots.now ++ (come.entry.items ++ drop (suc place) slots.now)) }
+        (λ made. made.items ≡ take position slots.now ++ (come.entry.items ++ drop (suc position) slots.now)) }
 {
     let mut come = come;
     let mut made = Vec::with_capacity(alloc, sum(slots.len(), 1)?)?;
-    push_shared(&mut made, &slots[..place])?;
+    push_shared(&mut made, &slots[..position])?;
     made.append(&mut come)?;
-    push_shared(&mut made, &slots[place + 1..])?;
+    push_shared(&mut made, &slots[position + 1..])?;
     Ok(made)
 }
 

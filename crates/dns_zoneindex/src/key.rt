@@ -7,10 +7,10 @@ use crate::node::Node;
 use std::cmp::Ordering;
 
 /// The octet at an index, or zero past the last one.
-fn octet_at(label: &[u8], place: usize) -> u8
-    ensures { result ≡ get_or label.now place 0 }
+fn octet_at(label: &[u8], position: usize) -> u8
+    ensures { result ≡ get_or label.now position 0 }
 {
-    match label.get(place) {
+    match label.get(position) {
         Some(octet) => *octet,
         None => 0,
     }

@@ -10,11 +10,11 @@ use dns_records::Record;
 use std::slice;
 
 /// The slot that holds the record at an index among all records, and its index among those of the slot.
-fn slot_of(slots: &[Slot], place: usize) -> Option<(&Slot, usize)>
-    ensures found { IfSome result (λ p. IsThere slots.now place p.0.now p.1) }
-    ensures none { IfNone result (IsBeyond slots.now place) }
+fn slot_of(slots: &[Slot], position: usize) -> Option<(&Slot, usize)>
+    ensures found { IfSome result (λ p. IsThere slots.now position p.0.now p.1) }
+    ensures none { IfNone result (IsBeyond slots.now position) }
 {
-    let mut left = place;
+    let mut left = position;
     for slot in slots {
         if left < slot.count {
             return Some((slot, left));
@@ -27,15 +27,15 @@ fn slot_of(slots: &[Slot], place: usize) -> Option<(&Slot, usize)>
 impl Children {
     /// Records from an index on, of all that are at and under the children.
     #[cycle(run)]
-    pub(crate) fn run_from(&self, place: usize) -> &[Record]
-        ensures { IsLent (path_records (flat (items self.now))) place result.now }
+    pub(crate) fn run_from(&self, position: usize) -> &[Record]
+        ensures { IsLent (path_records (flat (items self.now))) position result.now }
     {
         match self {
             Children::Empty => &[],
-            Children::One(node) => node.run_from(place),
+            Children::One(node) => node.run_from(position),
             Children::Many(group) => {
                 let Group { slots, .. } = &**group;
-                match slot_of(slots, place) {
+                match slot_of(slots, position) {
                     Some((slot, left)) => slot.children.run_from(left),
                     None => &[],
                 }
@@ -47,17 +47,17 @@ impl Children {
 impl Node {
     /// Records from an index on, of all that are at and under the name.
     #[cycle(run)]
-    pub(crate) fn run_from(&self, place: usize) -> &[Record]
-        ensures { IsLent (path_records self.now.own) place result.now }
+    pub(crate) fn run_from(&self, position: usize) -> &[Record]
+        ensures { IsLent (path_records self.now.own) position result.now }
     {
         match &self.kind {
             Kind::Leaf(record) => {
-                if place == 0 {
+                if position == 0 {
                     return slice::from_ref(record);
                 }
                 &[]
             }
-            Kind::Branch(branch) => branch.run_from(place),
+            Kind::Branch(branch) => branch.run_from(position),
         }
     }
 }
@@ -65,13 +65,13 @@ impl Node {
 impl Branch {
     /// Records from an index on, of all that are at and under the name.
     #[cycle(run)]
-    fn run_from(&self, place: usize) -> &[Record]
-        ensures { IsLent (path_records self.now.own) place result.now }
+    fn run_from(&self, position: usize) -> &[Record]
+        ensures { IsLent (path_records self.now.own) position result.now }
     {
         let own = self.records.as_slice();
-        if place < own.len() {
-            return &own[place..];
+        if position < own.len() {
+            return &own[position..];
         }
-        self.children.run_from(place - own.len())
+        self.children.run_from(position - own.len())
     }
 }

@@ -105,15 +105,15 @@ impl ZoneIndex for SharedTree {
         self.tree.count()
     }
 
-    fn run_from(&self, place: usize) -> &[Record] {
-        self.tree.run_from(place)
+    fn run_from(&self, position: usize) -> &[Record] {
+        self.tree.run_from(position)
     }
 
     fn walk(&self, after: Option<&Record>) -> Option<&Record> {
-        let place = match after {
+        let position = match after {
             None => 0,
             Some(record) => self.tree.count_to(record),
         };
-        self.tree.run_from(place).first()
+        self.tree.run_from(position).first()
     }
 }

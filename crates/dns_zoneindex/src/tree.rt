@@ -102,12 +102,12 @@ impl Tree {
     }
 
     /// Records from an index on, in one piece.
-    pub(crate) fn run_from(&self, place: usize) -> &[Record]
-        ensures { IsLent (path_records self.now) place result.now }
+    pub(crate) fn run_from(&self, position: usize) -> &[Record]
+        ensures { IsLent (path_records self.now) position result.now }
     {
         match &self.root {
             Root::Empty => &[],
-            Root::Full(node) => node.run_from(place),
+            Root::Full(node) => node.run_from(position),
         }
     }
 

@@ -27,10 +27,10 @@ impl Tree {
     }
 
     /// The record at an index.
-    fn record(&self, place: usize) -> &Record
-        requires { place < length (path_records self.now) }
-        ensures { slice_get (path_records self.now) place ≡ Some result.now }
+    fn record(&self, position: usize) -> &Record
+        requires { position < length (path_records self.now) }
+        ensures { slice_get (path_records self.now) position ≡ Some result.now }
     {
-        &self.run_from(place)[0]
+        &self.run_from(position)[0]
     }
 }

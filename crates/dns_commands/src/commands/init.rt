@@ -137,10 +137,10 @@ fn make_devices<'s, D: Sectors + Drop, F: NewDevices<D>, I: ZoneIndex>(
         (λ _. AreMade D.Sectors calls settings.now zones.now)
         (λ r. IsMakingUndone D.Sectors calls settings.now zones.now r.0.now r.1)) }
 {
-    for place in 0..settings.len() {
-        let own = &settings[place];
-        if let Err(fault) = make_store(heap, devices, own, &zones[place]) {
-            remove_all::<D, F>(devices, &settings[..place]);
+    for position in 0..settings.len() {
+        let own = &settings[position];
+        if let Err(fault) = make_store(heap, devices, own, &zones[position]) {
+            remove_all::<D, F>(devices, &settings[..position]);
             return Err((&own.device, fault));
         }
     }

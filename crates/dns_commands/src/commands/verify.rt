@@ -79,17 +79,17 @@ fn figures_of<I: ZoneIndex>(found: &Recovered<I>) -> Figures
 }
 
 /// Whether a sector of a device is zeros or its own.
-fn is_intact_at<D: Sectors>(device: &mut D, place: usize) -> Result<bool, OpenError>
-    requires { place < D.count device.old }
+fn is_intact_at<D: Sectors>(device: &mut D, position: usize) -> Result<bool, OpenError>
+    requires { position < D.count device.old }
     ensures intact { D.is_honest device.old → IfOk result
-        (λ b. IsTrue b ↔ IsIntactIn formats.Two place (sector_at (D.seen device.old) place)) }
+        (λ b. IsTrue b ↔ IsIntactIn formats.Two position (sector_at (D.seen device.old) position)) }
     ensures only { IfErr result (λ e. e ≡ OpenError.Device) }
     ensures device { result ≡ Err OpenError.Device → HasRisen (D.failed device.old) (D.failed device.new) }
     ensures quiet { OnOk result (D.failed device.new ≡ D.failed device.old) }
     ensures reads { OnlyReads D.Sectors device.old device.new }
 {
-    let sector = device.read(place)?;
-    Ok(is_intact(Format::Two, place, &sector))
+    let sector = device.read(position)?;
+    Ok(is_intact(Format::Two, position, &sector))
 }
 
 /// The sectors of a device that are neither zeros nor their own, in order.
@@ -102,9 +102,9 @@ fn spoilt_sectors<D: Sectors>(heap: Heap, device: &mut D) -> Result<Vec<usize, H
     ensures reads { OnlyReads D.Sectors device.old device.new }
 {
     let mut places = Vec::new(heap);
-    for place in 0..device.len() {
-        let is_well = is_intact_at(device, place)?;
-        if !is_well && places.push(place).is_err() {
+    for position in 0..device.len() {
+        let is_well = is_intact_at(device, position)?;
+        if !is_well && places.push(position).is_err() {
             return Err(OpenError::OutOfMemory);
         }
     }
@@ -252,8 +252,8 @@ fn report_each<E: Write>(
     ensures { OnOk result (Appends (E.contents err.old) (E.contents err.new)
         (flat_map (spoilt_text (string_bytes own.now.device) explain) places.now)) }
 {
-    for place in places {
-        tell_device(err, &own.device, DeviceFault::Damaged(*place), explain)?;
+    for position in places {
+        tell_device(err, &own.device, DeviceFault::Damaged(*position), explain)?;
     }
     Ok(())
 }

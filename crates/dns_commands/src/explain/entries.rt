@@ -170,13 +170,13 @@ fn tell_opaque<E: Write>(digits: &[u8], data: &[&[u8]], err: &mut E) -> io::Resu
 
 /// Tells what is wrong with data of a type.
 fn tell_data<E: Write>(words: &Words<'_>, met: &[u8], err: &mut E) -> io::Result<()> {
-    let place = words.type_place();
-    let rtype = match words.texts.get(place) {
+    let position = words.type_place();
+    let rtype = match words.texts.get(position) {
         Some(rtype) => *rtype,
         None => b"",
     };
     if let Some(digits) = digits_of(rtype) {
-        let data = words.texts.get(place.saturating_add(1)..).unwrap_or(&[]);
+        let data = words.texts.get(position.saturating_add(1)..).unwrap_or(&[]);
         return tell_opaque(digits, data, err);
     }
     let word = PrintedWord(met);
@@ -231,11 +231,11 @@ fn tell_missing<E: Write>(words: &Words<'_>, error: FileError, err: &mut E) -> i
     if words.is_directive() {
         return writeln!(err, "a word is missing at the end of the directive");
     }
-    let place = words.type_place();
-    let Some(rtype) = words.texts.get(place) else {
+    let position = words.type_place();
+    let Some(rtype) = words.texts.get(position) else {
         return writeln!(err, "the type and the data are missing");
     };
-    let count = words.texts.len().saturating_sub(place).saturating_sub(1);
+    let count = words.texts.len().saturating_sub(position).saturating_sub(1);
     match missing_part(*rtype, count) {
         Some((name, part)) => writeln!(err, "{name}: {part} is missing"),
         None => writeln!(err, "{error}"),

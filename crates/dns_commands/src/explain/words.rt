@@ -49,9 +49,9 @@ pub(super) struct Words<'a> {
 /// The octets of a file from the start of a line on, the first being 1.
 fn from_line(octets: &[u8], line: usize) -> &[u8] {
     let mut number = 1usize;
-    for (place, octet) in octets.iter().enumerate() {
+    for (position, octet) in octets.iter().enumerate() {
         if number == line {
-            return octets.get(place..).unwrap_or(&[]);
+            return octets.get(position..).unwrap_or(&[]);
         }
         if *octet == b'\n' {
             number = number.saturating_add(1);
@@ -84,72 +84,72 @@ impl<'a> Words<'a> {
             texts: Vec::new(heap),
             flaw: None,
         };
-        for (place, octet) in octets.iter().enumerate() {
+        for (position, octet) in octets.iter().enumerate() {
             if words.has_ended {
                 break;
             }
-            words.take(place, *octet)?;
+            words.take(position, *octet)?;
         }
         words.end()?;
         Ok(words)
     }
 
     /// Reads an octet.
-    fn take(&mut self, place: usize, octet: u8) -> Result<(), AllocError> {
+    fn take(&mut self, position: usize, octet: u8) -> Result<(), AllocError> {
         match octet {
-            b'\n' => self.end_line(place),
-            b'\r' if self.octets.get(place.saturating_add(1)) == Some(&b'\n') => {
-                self.end_part(place)
+            b'\n' => self.end_line(position),
+            b'\r' if self.octets.get(position.saturating_add(1)) == Some(&b'\n') => {
+                self.end_part(position)
             }
-            b'\t' => self.take_text(place, octet),
+            b'\t' => self.take_text(position, octet),
             0..=31 | 127 => {
                 self.stop(Flaw::Octet(octet, self.line));
                 Ok(())
             }
-            _ => self.take_text(place, octet),
+            _ => self.take_text(position, octet),
         }
     }
 
     /// Reads an octet that may be in a word.
-    fn take_text(&mut self, place: usize, octet: u8) -> Result<(), AllocError> {
+    fn take_text(&mut self, position: usize, octet: u8) -> Result<(), AllocError> {
         if self.escaped {
             self.escaped = false;
             return Ok(());
         }
         match self.state {
             State::Comment => {}
-            State::Quoted(_) if octet == b'"' => self.end_word(place)?,
+            State::Quoted(_) if octet == b'"' => self.end_word(position)?,
             State::Quoted(_) => self.escaped = octet == b'\\',
             State::Bare(_) if !ends_word(octet) => self.escaped = octet == b'\\',
             State::Bare(_) | State::Between => {
-                self.end_word(place)?;
-                self.begin(place, octet);
+                self.end_word(position)?;
+                self.begin(position, octet);
             }
         }
         Ok(())
     }
 
     /// Begins what an octet between words begins.
-    fn begin(&mut self, place: usize, octet: u8) {
+    fn begin(&mut self, position: usize, octet: u8) {
         match (octet, self.open) {
             (b' ' | b'\t', _) => {}
             (b';', _) => self.state = State::Comment,
-            (b'"', _) => self.state = State::Quoted(place.saturating_add(1)),
+            (b'"', _) => self.state = State::Quoted(position.saturating_add(1)),
             (b'(', Some(line)) => self.stop(Flaw::Open(line)),
             (b'(', None) => self.open = Some(self.line),
             (b')', Some(_)) => self.open = None,
             (b')', None) => self.stop(Flaw::Closing(self.line)),
             _ => {
-                self.state = State::Bare(place);
+                self.state = State::Bare(position);
                 self.escaped = octet == b'\\';
             }
         }
     }
 
     /// Keeps the word that ends before a position, if there is one.
-    fn end_word(&mut self, place: usize) -> Result<(), AllocError> {
+    fn end_word(&mut self, position: usize) -> Result<(), AllocError> {
         if let State::Bare(start) | State::Quoted(start) = self.state {
-            if let Some(text) = self.octets.get(start..place) {
+            if let Some(text) = self.octets.get(start..position) {
                 self.texts.push(text)?;
             }
         }
@@ -159,17 +159,17 @@ impl<'a> Words<'a> {
     }
 
     /// Ends what can't go on on another line.
-    fn end_part(&mut self, place: usize) -> Result<(), AllocError> {
+    fn end_part(&mut self, position: usize) -> Result<(), AllocError> {
         if let State::Quoted(_) = self.state {
             self.stop(Flaw::Quote(self.line));
             return Ok(());
         }
-        self.end_word(place)
+        self.end_word(position)
     }
 
     /// Reads the end of a line, which ends the entry if no parenthesis is open.
-    fn end_line(&mut self, place: usize) -> Result<(), AllocError> {
-        self.end_part(place)?;
+    fn end_line(&mut self, position: usize) -> Result<(), AllocError> {
+        self.end_part(position)?;
         self.line = self.line.saturating_add(1);
         if self.open.is_none() {
             self.has_ended = true;
@@ -206,14 +206,14 @@ impl<'a> Words<'a> {
 
     /// The position of the word of the type: after the owner, the TTL and the class.
     pub(super) fn type_place(&self) -> usize {
-        let mut place = if self.blank { 0 } else { 1 };
+        let mut position = if self.blank { 0 } else { 1 };
         for _ in 0..2 {
-            match self.texts.get(place) {
-                Some(text) if is_middle(*text) => place = place.saturating_add(1),
+            match self.texts.get(position) {
+                Some(text) if is_middle(*text) => position = position.saturating_add(1),
                 _ => {}
             }
         }
-        place
+        position
     }
 }
 

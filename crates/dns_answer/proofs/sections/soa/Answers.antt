@@ -20,6 +20,6 @@ returns-in-Some-clause-one g c =
     let run = c.run_from-first.ensures.run in
     let all : z.records ≡ first ++ run.0 = sym c.index.ensures ∙ run.1 in
     let soa = zone_soa z c.apex-valid.ensures.valid in
-    let got : slice_get first c.partition_point-place.result ≡ Some r = slice_get_read first (length first) c.partition_point-place.result r refl c.in-Some.ensures.lookup.3.0 c.in-Some.ensures.lookup.1 in
+    let got : slice_get first c.partition_point-position.result ≡ Some r = slice_get_read first (length first) c.partition_point-position.result r refl c.in-Some.ensures.lookup.3.0 c.in-Some.ensures.lookup.1 in
     let typed : r.rtype ≡ type_soa = sym c.rtype.ensures ∙ c.if-rtype-eq-SOA.true in
-    ap soas all ∙ one_kept is_soa run.0 first c.partition_point-place.result soa.soa r (ap soas (sym all) ∙ soa.one) got (typed_soa r typed)
+    ap soas all ∙ one_kept is_soa run.0 first c.partition_point-position.result soa.soa r (ap soas (sym all) ∙ soa.one) got (typed_soa r typed)

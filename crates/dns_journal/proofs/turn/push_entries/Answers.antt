@@ -25,7 +25,7 @@ loop-change-preserved c =
       pushes =
           subst (λ (l : List Change). PushesEntries c.args.next.now c.push_entry.new.next l (pairs c.args.writes.now.items) (pairs c.push_entry.new.writes.items)) (changes_next c.args.changes.now c.loop-change.change-index change c.loop-change-test.true c.change-item.is)
           (entries_more c.args.next.now c.loop-change.next c.push_entry.new.next (take c.loop-change.change-index c.args.changes.now) change (pairs c.args.writes.now.items) (pairs c.loop-change.writes.items) (pairs c.push_entry.new.writes.items) c.loop-change.invariant.pushes one);
-      room = omega (arith, room, one.place, one.size, one.until_stays);
+      room = omega (arith, room, one.position, one.size, one.until_stays);
       number = omega (arith, one.version_is, c.loop-change.invariant.number);
       until = one.until_stays ∙ c.loop-change.invariant.until;
       within = λ n le all. c.push_entry.ensures.within n (omega (arith, le, c.loop-change.invariant.until)) (c.loop-change.invariant.within n le all);

@@ -16,7 +16,7 @@ returns-clause-next c =
     let start = 1 + c.number.result * (c.args.root.now.snapshot_room + c.args.root.now.journal_room) + c.args.root.now.snapshot_room in
     let small : c.number.result ≤ 1 = omega (arith, c.number.ensures, c.other_bank.ensures, other_small (bank_number c.args.root.now.bank)) in
     let end = bank_ends c.number.result s j small in (
-      omega (arith, p.place, p.until_stays, entries_end p.entries (start + j) start c.args.base c.args.root.now.open_count (omega arith) p.batch),
+      omega (arith, p.position, p.until_stays, entries_end p.entries (start + j) start c.args.base c.args.root.now.open_count (omega arith) p.batch),
       omega (arith, p.until_stays, end),
       p.version_is ∙ versions_count p.entries c.args.base ∙ ap (λ n. c.args.base + n) (entries_count c.args.changes.now p.entries p.are),
     )

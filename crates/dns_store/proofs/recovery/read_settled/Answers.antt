@@ -21,17 +21,17 @@ returns-in-Err-clause-found g c honest range before altered o s is part =
     (c.in-Err.ensures.found (reads.honest.1 honest) range before (subst (λ (d : Content). IsAltered Two before d) (sym (reads.seen honest)) altered) o s is part)
 
 pub returns-in-Ok-clause-not_own : goal.returns-in-Ok-clause-not_own
-returns-in-Ok-clause-not_own g c honest range place reached spoilt =
+returns-in-Ok-clause-not_own g c honest range position reached spoilt =
     let shape : Shape = record { apex = c.args.apex.now; snapshot = c.args.snapshot; journal = c.args.journal } in
     let reads = c.settle.ensures.reads in
     let same = reads.seen honest in
-    c.in-Ok.ensures.not_own (reads.honest.1 honest) range place (subst (λ (d : Content). IsSectorRead shape d place) (sym same) reached)
-    (λ own. spoilt (subst (λ (d : Content). IsIntactIn Two place (sector_at d place)) same own))
+    c.in-Ok.ensures.not_own (reads.honest.1 honest) range position (subst (λ (d : Content). IsSectorRead shape d position) (sym same) reached)
+    (λ own. spoilt (subst (λ (d : Content). IsIntactIn Two position (sector_at d position)) same own))
 
 pub returns-in-Err-clause-not_own : goal.returns-in-Err-clause-not_own
-returns-in-Err-clause-not_own g c honest range place reached spoilt =
+returns-in-Err-clause-not_own g c honest range position reached spoilt =
     let shape : Shape = record { apex = c.args.apex.now; snapshot = c.args.snapshot; journal = c.args.journal } in
     let reads = c.settle.ensures.reads in
     let same = reads.seen honest in
-    c.in-Err.ensures.not_own (reads.honest.1 honest) range place (subst (λ (d : Content). IsSectorRead shape d place) (sym same) reached)
-    (λ own. spoilt (subst (λ (d : Content). IsIntactIn Two place (sector_at d place)) same own))
+    c.in-Err.ensures.not_own (reads.honest.1 honest) range position (subst (λ (d : Content). IsSectorRead shape d position) (sym same) reached)
+    (λ own. spoilt (subst (λ (d : Content). IsIntactIn Two position (sector_at d position)) same own))

@@ -55,12 +55,12 @@ returns-in_err-octets-clause-found g c honest range k altered o s opens part =
     let says = found.says in
     let at = 1 + c.number.result * (c.args.snapshot + c.args.journal) in
     let still = subst (λ e. IsAltered f k e) (sym (one.seen honest)) altered in
-    let place = place_of f sz k c.in_ok-root.root c.number.result says c.number.ensures in
+    let position = place_of f sz k c.in_ok-root.root c.number.result says c.number.ensures in
     let p = err_from_is_err_and c.from_residual-in_err-octets.result c.from_residual-in_err-octets.ensures.1 in
     let e = c.in_err-octets.field-0.0 in
     let size = snapshot_sectors_in f c.in_ok-root.root.snapshot_length in
     let bad = subst (λ b. NamesSpoilt f b at (at + size) e ⊎ IsBadSnapshotIn f (sector_at k 0) at k e) (one.seen honest) (c.in_err-octets.ensures.damaged (one.honest.1 honest) k still (sector_at k 0) says) in
-    rw p.1 (snapshot_there f sz k s there.0 there.1 d at place size c.in_ok-root.ensures.fits.0 e p.0 p.2 bad)
+    rw p.1 (snapshot_there f sz k s there.0 there.1 d at position size c.in_ok-root.ensures.fits.0 e p.0 p.2 bad)
 
 pub returns-in-Err-clause-found : goal.returns-in-Err-clause-found
 returns-in-Err-clause-found g c honest range k altered o s opens part =
@@ -74,9 +74,9 @@ returns-in-Err-clause-found g c honest range k altered o s opens part =
     let says = found.says in
     let at = 1 + c.number.result * (c.args.snapshot + c.args.journal) in
     let still = subst (λ e. IsAltered f k e) (sym (one.seen honest)) altered in
-    let place : at ≡ snapshot_place sz (number (sector_at k 0)) = place_of f sz k c.in_ok-root.root c.number.result says c.number.ensures in
+    let position : at ≡ snapshot_place sz (number (sector_at k 0)) = place_of f sz k c.in_ok-root.root c.number.result says c.number.ensures in
     let holds = c.in_ok-octets.ensures.found (one.honest.1 honest) k still (sector_at k 0) says in
-    let octets = snapshot_is f sz k (sector_at k 0) there.0 s there.1 c.in_ok-octets.octets.items (subst (λ n. HoldsSnapshotIn f (sector_at k 0) n k c.in_ok-octets.octets.items) place holds) in
+    let octets = snapshot_is f sz k (sector_at k 0) there.0 s there.1 c.in_ok-octets.octets.items (subst (λ n. HoldsSnapshotIn f (sector_at k 0) n k c.in_ok-octets.octets.items) position holds) in
     ⊎_elim (λ memory. inl (inr (inl (c.fault_at.ensures.memory memory)))) (λ bad. absurd (bad.1 (base_of o) part.valid (c.deref.ensures.value ∙ octets ∙ part.snapshot))) c.in-Err.ensures.refused
 
 pub returns-in_err-newest-clause-found : goal.returns-in_err-newest-clause-found
@@ -91,9 +91,9 @@ returns-in_err-newest-clause-found g c honest range k altered o s opens part =
     let says = found.says in
     let at = 1 + c.number.result * (c.args.snapshot + c.args.journal) in
     let still = subst (λ e. IsAltered f k e) (sym (one.seen honest)) altered in
-    let place : at ≡ snapshot_place sz (number (sector_at k 0)) = place_of f sz k c.in_ok-root.root c.number.result says c.number.ensures in
+    let position : at ≡ snapshot_place sz (number (sector_at k 0)) = place_of f sz k c.in_ok-root.root c.number.result says c.number.ensures in
     let holds = c.in_ok-octets.ensures.found (one.honest.1 honest) k still (sector_at k 0) says in
-    let octets = snapshot_is f sz k (sector_at k 0) there.0 s there.1 c.in_ok-octets.octets.items (subst (λ n. HoldsSnapshotIn f (sector_at k 0) n k c.in_ok-octets.octets.items) place holds) in
+    let octets = snapshot_is f sz k (sector_at k 0) there.0 s there.1 c.in_ok-octets.octets.items (subst (λ n. HoldsSnapshotIn f (sector_at k 0) n k c.in_ok-octets.octets.items) position holds) in
     let two = reads_then _ _ _ one c.read_snapshot.ensures.reads in
     let mine = c.in-Ok.ensures.found in
     let base : c.in-Ok.base.records ≡ base_of o =
@@ -103,14 +103,14 @@ returns-in_err-newest-clause-found g c honest range k altered o s opens part =
     subst (λ rs. AreChangesIn f c.in_ok-copy.copy.apex c.args.snapshot rs (drop o.base o.versions) s.entries) (sym (copied.1 ∙ base))
     (subst (λ a. AreChangesIn f a c.args.snapshot (base_of o) (drop o.base o.versions) s.entries) (sym (copied.0 ∙ mine.1)) part.changes) in
     let cursor : Cursor = record { at = at + c.args.snapshot; until = at + c.args.snapshot + c.args.journal; version = c.in_ok-root.root.base; opened = c.in_ok-root.root.bank_open } in
-    let reads = journal_there f sz k s there.0 there.1 d c.in_ok-root.root says cursor (ap (λ n. n + c.args.snapshot) place) (ap (λ n. n + c.args.snapshot + c.args.journal) place) refl refl in
+    let reads = journal_there f sz k s there.0 there.1 d c.in_ok-root.root says cursor (ap (λ n. n + c.args.snapshot) position) (ap (λ n. n + c.args.snapshot + c.args.journal) position) refl refl in
     let still' = subst (λ e. IsAltered f k e) (sym (two.seen honest)) altered in
     let all = c.in_err-newest.ensures.reads_all (two.honest.1 honest) k still' (drop o.base o.versions) s.entries reads are in
     let p = err_from_is_err_and c.from_residual-in_err-newest.result c.from_residual-in_err-newest.ensures.1 in
     let e = c.in_err-newest.field-0.0 in
     rw (p.1, p.2)
     (⊎_elim (λ failed. inl (inl failed)) (λ rest. ⊎_elim (λ memory. inl (inr (inl memory)))
-    (λ spoilt. inr (bank_altered f sz k s there.0 there.1 d cursor.at cursor.until (omega (arith, place)) (omega (arith, place)) e (subst (λ b. NamesSpoiltIn f b cursor.at cursor.until e) (two.seen honest) spoilt))) rest) all)
+    (λ spoilt. inr (bank_altered f sz k s there.0 there.1 d cursor.at cursor.until (omega (arith, position)) (omega (arith, position)) e (subst (λ b. NamesSpoiltIn f b cursor.at cursor.until e) (two.seen honest) spoilt))) rest) all)
 
 pub returns-clause-found : goal.returns-clause-found
 returns-clause-found g c honest range k altered o s opens part =
@@ -124,9 +124,9 @@ returns-clause-found g c honest range k altered o s opens part =
     let says = found.says in
     let at = 1 + c.number.result * (c.args.snapshot + c.args.journal) in
     let still = subst (λ e. IsAltered f k e) (sym (one.seen honest)) altered in
-    let place : at ≡ snapshot_place sz (number (sector_at k 0)) = place_of f sz k c.in_ok-root.root c.number.result says c.number.ensures in
+    let position : at ≡ snapshot_place sz (number (sector_at k 0)) = place_of f sz k c.in_ok-root.root c.number.result says c.number.ensures in
     let holds = c.in_ok-octets.ensures.found (one.honest.1 honest) k still (sector_at k 0) says in
-    let octets = snapshot_is f sz k (sector_at k 0) there.0 s there.1 c.in_ok-octets.octets.items (subst (λ n. HoldsSnapshotIn f (sector_at k 0) n k c.in_ok-octets.octets.items) place holds) in
+    let octets = snapshot_is f sz k (sector_at k 0) there.0 s there.1 c.in_ok-octets.octets.items (subst (λ n. HoldsSnapshotIn f (sector_at k 0) n k c.in_ok-octets.octets.items) position holds) in
     let two = reads_then _ _ _ one c.read_snapshot.ensures.reads in
     let mine = c.in-Ok.ensures.found in
     let base : c.in-Ok.base.records ≡ base_of o =
@@ -136,14 +136,14 @@ returns-clause-found g c honest range k altered o s opens part =
     subst (λ rs. AreChangesIn f c.in_ok-copy.copy.apex c.args.snapshot rs (drop o.base o.versions) s.entries) (sym (copied.1 ∙ base))
     (subst (λ a. AreChangesIn f a c.args.snapshot (base_of o) (drop o.base o.versions) s.entries) (sym (copied.0 ∙ mine.1)) part.changes) in
     let cursor : Cursor = record { at = at + c.args.snapshot; until = at + c.args.snapshot + c.args.journal; version = c.in_ok-root.root.base; opened = c.in_ok-root.root.bank_open } in
-    let reads = journal_there f sz k s there.0 there.1 d c.in_ok-root.root says cursor (ap (λ n. n + c.args.snapshot) place) (ap (λ n. n + c.args.snapshot + c.args.journal) place) refl refl in
+    let reads = journal_there f sz k s there.0 there.1 d c.in_ok-root.root says cursor (ap (λ n. n + c.args.snapshot) position) (ap (λ n. n + c.args.snapshot + c.args.journal) position) refl refl in
     let still' = subst (λ e. IsAltered f k e) (sym (two.seen honest)) altered in
     let all = c.in_ok-newest.ensures.reads_all (two.honest.1 honest) k still' (drop o.base o.versions) s.entries reads are in
     let rs = copied.1 ∙ base in
     record {
       says = says;
-      until_is = c.read_versions.ensures.until ∙ ap (λ n. n + c.args.snapshot + c.args.journal) place;
-      at_is = all.place ∙ ap (λ n. place_behind (n + c.args.snapshot) s.entries) place;
+      until_is = c.read_versions.ensures.until ∙ ap (λ n. n + c.args.snapshot + c.args.journal) position;
+      at_is = all.position ∙ ap (λ n. place_behind (n + c.args.snapshot) s.entries) position;
       version_is = all.version_is ∙ ap (λ n. version_behind n s.entries) (sym says.base_is ∙ there.1.base);
       base_is = base;
       led = subst (λ (b : List Record). AreLed b (drop o.base o.versions) c.in_ok-newest.changes.items) rs all.led;
@@ -280,7 +280,7 @@ returns-in_err-newest-clause-damaged g c honest =
     rw (p.1, p.2) (journal_named f shape d c.in_ok-root.root says at at_is base plains valid e mine')
 
 pub returns-in_err-root-clause-not_own : goal.returns-in_err-root-clause-not_own
-returns-in_err-root-clause-not_own g c honest range place reached not =
+returns-in_err-root-clause-not_own g c honest range position reached not =
     let f = c.args.format in
     let d = g.D.Sectors.seen c.args.device.now in
     let shape : Shape = record { apex = c.args.apex.now; snapshot = c.args.snapshot; journal = c.args.journal } in
@@ -290,14 +290,14 @@ returns-in_err-root-clause-not_own g c honest range place reached not =
     rw (p.1, p.2)
     (⊎_elim
     (λ first. subst (λ n. NamesSector n e) (sym first.0) (c.in_err-root.ensures.not_own honest (λ own. not (subst (λ n. IsIntactIn f n (sector_at d n)) (sym first.0) own))))
-    (λ bank. root_reached f shape d bank.0 bank.1 c.apex_of.ensures.plain place e
+    (λ bank. root_reached f shape d bank.0 bank.1 c.apex_of.ensures.plain position e
     (subst (λ n. (e ≡ OpenError.Device) ⊎ NamesSpoiltIn f d 0 1 e ⊎ RootRefusalIn f (sizes_of shape) n (sector_at d 0) e) count
     (subst (λ a. (e ≡ OpenError.Device) ⊎ NamesSpoiltIn f d 0 1 e ⊎ RootRefusalIn f (record { snapshot = c.args.snapshot; journal = c.args.journal; apex = a }) (g.D.Sectors.count c.args.device.now) (sector_at d 0) e) c.apex_of.ensures.octets
     (c.in_err-root.ensures.refused honest d (altered_itself f d)))))
     reached)
 
 pub returns-in_err-octets-clause-not_own : goal.returns-in_err-octets-clause-not_own
-returns-in_err-octets-clause-not_own g c honest range place reached not =
+returns-in_err-octets-clause-not_own g c honest range position reached not =
     let f = c.args.format in
     let d = g.D.Sectors.seen c.args.device.now in
     let shape : Shape = record { apex = c.args.apex.now; snapshot = c.args.snapshot; journal = c.args.journal } in
@@ -317,12 +317,12 @@ returns-in_err-octets-clause-not_own g c honest range place reached not =
     (λ part. subst (λ n. NamesSector n p.0) (sym part.1) (sector_named (at + part.0) e p.0 p.2
     (c.in_err-octets.ensures.not_own (one.honest.1 honest) (sector_at d 0) says part.0 (subst (λ b. IsReachedPartIn f (sector_at d 0) at b part.0) (sym (one.seen honest)) part.2)
     (λ own. not (subst (λ n. IsIntactIn f n (sector_at d n)) (sym part.1) (subst (λ b. IsIntactIn f (at + part.0) (sector_at b (at + part.0))) (one.seen honest) own))))))
-    (λ behind. snapshot_reached f d (sector_at d 0) at (flat_map plain behind.base) behind.holds behind.own size (ap (snapshot_sectors_in f) (sym says.snapshot_length_is)) place e p.0 p.2 bad)
-    (reaches f shape d bank.0 bank.1 c.in_ok-root.root says c.number.result c.number.ensures place bank.2))
+    (λ behind. snapshot_reached f d (sector_at d 0) at (flat_map plain behind.base) behind.holds behind.own size (ap (snapshot_sectors_in f) (sym says.snapshot_length_is)) position e p.0 p.2 bad)
+    (reaches f shape d bank.0 bank.1 c.in_ok-root.root says c.number.result c.number.ensures position bank.2))
     reached)
 
 pub returns-in-Err-clause-not_own : goal.returns-in-Err-clause-not_own
-returns-in-Err-clause-not_own g c honest range place reached not =
+returns-in-Err-clause-not_own g c honest range position reached not =
     let f = c.args.format in
     let d = g.D.Sectors.seen c.args.device.now in
     let shape : Shape = record { apex = c.args.apex.now; snapshot = c.args.snapshot; journal = c.args.journal } in
@@ -339,11 +339,11 @@ returns-in-Err-clause-not_own g c honest range place reached not =
     (λ own. not (subst (λ n. IsIntactIn f n (sector_at d n)) (sym part.1) (subst (λ b. IsIntactIn f (at + part.0) (sector_at b (at + part.0))) (one.seen honest) own)))))
     (λ behind. (let same = holds.octets_are ∙ sym behind.holds.octets_are in
     ⊎_elim (λ memory. inr (inl (c.fault_at.ensures.memory memory))) (λ bad. absurd (bad.1 behind.base behind.valid (c.deref.ensures.value ∙ same))) c.in-Err.ensures.refused))
-    (reaches f shape d bank.0 bank.1 c.in_ok-root.root says c.number.result c.number.ensures place bank.2))
+    (reaches f shape d bank.0 bank.1 c.in_ok-root.root says c.number.result c.number.ensures position bank.2))
     reached
 
 pub returns-in_err-newest-clause-not_own : goal.returns-in_err-newest-clause-not_own
-returns-in_err-newest-clause-not_own g c honest range place reached not =
+returns-in_err-newest-clause-not_own g c honest range position reached not =
     let f = c.args.format in
     let d = g.D.Sectors.seen c.args.device.now in
     let shape : Shape = record { apex = c.args.apex.now; snapshot = c.args.snapshot; journal = c.args.journal } in
@@ -367,15 +367,15 @@ returns-in_err-newest-clause-not_own g c honest range place reached not =
     (λ behind. (let same = holds.octets_are ∙ sym behind.holds.octets_are in
     let base : c.in-Ok.base.records ≡ behind.base =
     zones_same c.args.apex.now c.in-Ok.base.records behind.base (subst (λ a. IsZone (record { apex = a; records = c.in-Ok.base.records })) mine.1 mine.0) behind.valid (sym mine.2 ∙ c.deref.ensures.value ∙ same) in
-    let reach = subst (λ b. IsReachedEntryIn f c.in_ok-copy.copy.apex c.args.snapshot c.in_ok-copy.copy.records cursor b place) (sym (two.seen honest))
-    (subst (λ (rs : List Record). IsReachedEntryIn f c.in_ok-copy.copy.apex c.args.snapshot rs cursor d place) (sym (copied.1 ∙ base))
-    (subst (λ a. IsReachedEntryIn f a c.args.snapshot behind.base cursor d place) (sym (copied.0 ∙ mine.1)) behind.reached)) in
-    c.in_err-newest.ensures.not_own (two.honest.1 honest) place reach (subst (λ b. IsIntactIn f place (sector_at b place) → ⊥) (sym (two.seen honest)) not)))
-    (reaches f shape d bank.0 bank.1 c.in_ok-root.root says c.number.result c.number.ensures place bank.2))
+    let reach = subst (λ b. IsReachedEntryIn f c.in_ok-copy.copy.apex c.args.snapshot c.in_ok-copy.copy.records cursor b position) (sym (two.seen honest))
+    (subst (λ (rs : List Record). IsReachedEntryIn f c.in_ok-copy.copy.apex c.args.snapshot rs cursor d position) (sym (copied.1 ∙ base))
+    (subst (λ a. IsReachedEntryIn f a c.args.snapshot behind.base cursor d position) (sym (copied.0 ∙ mine.1)) behind.reached)) in
+    c.in_err-newest.ensures.not_own (two.honest.1 honest) position reach (subst (λ b. IsIntactIn f position (sector_at b position) → ⊥) (sym (two.seen honest)) not)))
+    (reaches f shape d bank.0 bank.1 c.in_ok-root.root says c.number.result c.number.ensures position bank.2))
     reached)
 
 pub returns-clause-not_own : goal.returns-clause-not_own
-returns-clause-not_own g c honest range place reached not =
+returns-clause-not_own g c honest range position reached not =
     let f = c.args.format in
     let d = g.D.Sectors.seen c.args.device.now in
     let shape : Shape = record { apex = c.args.apex.now; snapshot = c.args.snapshot; journal = c.args.journal } in
@@ -397,9 +397,9 @@ returns-clause-not_own g c honest range place reached not =
     (λ behind. (let same = holds.octets_are ∙ sym behind.holds.octets_are in
     let base : c.in-Ok.base.records ≡ behind.base =
     zones_same c.args.apex.now c.in-Ok.base.records behind.base (subst (λ a. IsZone (record { apex = a; records = c.in-Ok.base.records })) mine.1 mine.0) behind.valid (sym mine.2 ∙ c.deref.ensures.value ∙ same) in
-    let reach = subst (λ b. IsReachedEntryIn f c.in_ok-copy.copy.apex c.args.snapshot c.in_ok-copy.copy.records cursor b place) (sym (two.seen honest))
-    (subst (λ (rs : List Record). IsReachedEntryIn f c.in_ok-copy.copy.apex c.args.snapshot rs cursor d place) (sym (copied.1 ∙ base))
-    (subst (λ a. IsReachedEntryIn f a c.args.snapshot behind.base cursor d place) (sym (copied.0 ∙ mine.1)) behind.reached)) in
-    c.in_ok-newest.ensures.not_own (two.honest.1 honest) place reach (subst (λ b. IsIntactIn f place (sector_at b place) → ⊥) (sym (two.seen honest)) not)))
-    (reaches f shape d bank.0 bank.1 c.in_ok-root.root says c.number.result c.number.ensures place bank.2))
+    let reach = subst (λ b. IsReachedEntryIn f c.in_ok-copy.copy.apex c.args.snapshot c.in_ok-copy.copy.records cursor b position) (sym (two.seen honest))
+    (subst (λ (rs : List Record). IsReachedEntryIn f c.in_ok-copy.copy.apex c.args.snapshot rs cursor d position) (sym (copied.1 ∙ base))
+    (subst (λ a. IsReachedEntryIn f a c.args.snapshot behind.base cursor d position) (sym (copied.0 ∙ mine.1)) behind.reached)) in
+    c.in_ok-newest.ensures.not_own (two.honest.1 honest) position reach (subst (λ b. IsIntactIn f position (sector_at b position) → ⊥) (sym (two.seen honest)) not)))
+    (reaches f shape d bank.0 bank.1 c.in_ok-root.root says c.number.result c.number.ensures position bank.2))
     reached

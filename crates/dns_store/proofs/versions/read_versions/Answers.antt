@@ -30,7 +30,7 @@ entries-init g c = record {
   goes = λ honest k altered vs es reads are.
       subst (λ (l : List Change). Goes c.args.format c.args.cursor.now c.args.cursor.now k c.args.base.apex c.args.room c.args.base.records vs es c.args.base.records l) (sym c.new-changes.ensures.items)
       (begins c.args.format c.args.cursor.now k c.args.base.apex c.args.room c.args.base.records vs es reads are);
-  reached = λ honest place reached not. reached;
+  reached = λ honest position reached not. reached;
 }
 
 pub returns-in_err-found-clause-reads_all : goal.returns-in_err-found-clause-reads_all
@@ -96,7 +96,7 @@ entries-preserved g c = record {
       let pushed : c.push.new.self.items ≡ c.entries.changes.items ++ c.in-Ok.step.0 ∷ [] = search rules in
       subst (λ (l : List Change). Goes f c.args.cursor.now c.next_entry.new.cursor k c.args.base.apex c.args.room c.args.base.records vs es c.in-Ok.step.1.records l) (sym (pushed ∙ ap (λ (e : Change). c.entries.changes.items ++ e ∷ []) is.0))
       (subst (λ rs. Goes f c.args.cursor.now c.next_entry.new.cursor k c.args.base.apex c.args.room c.args.base.records vs es rs (c.entries.changes.items ++ next.change ∷ [])) (sym is.1) next.goes);
-  reached = λ honest place reached not.
+  reached = λ honest position reached not.
       let f = c.args.format in
       let d = g.D.Sectors.seen c.args.device.now in
       let same = c.entries.invariant.reads.seen honest in
@@ -104,9 +104,9 @@ entries-preserved g c = record {
       let still = subst (λ e. IsAltered f d e) (sym same) (altered_itself f d) in
       let finds = subst (λ (r : Option Found). MatchOption r (IsJournalEnd f c.entries.cursor d) (λ e. FindsEntry f c.entries.cursor c.next_entry.new.cursor d e.octets.items × (e.head ≡ c.entries.cursor.at))) c.in-Some.is
       (c.in_ok-found.ensures.found honest' d still) in
-      let direct : c.entries.cursor.at < c.entries.cursor.until → IsReachedAt f c.entries.cursor d place → ⊥ = λ lt there.
-      c.in_ok-found.ensures.not_own honest' lt place (subst (λ e. IsReachedAt f c.entries.cursor e place) (sym same) there) (subst (λ e. IsIntactIn f place (sector_at e place) → ⊥) (sym same) not) in
-      reach_on f c.args.base.apex c.args.room d c.entries.zone.records c.entries.cursor place direct (c.entries.invariant.reached honest place reached not) c.next_entry.new.cursor c.in-Some.found.octets.items finds.0 c.in-Ok.step.0 c.in-Ok.step.1.records
+      let direct : c.entries.cursor.at < c.entries.cursor.until → IsReachedAt f c.entries.cursor d position → ⊥ = λ lt there.
+      c.in_ok-found.ensures.not_own honest' lt position (subst (λ e. IsReachedAt f c.entries.cursor e position) (sym same) there) (subst (λ e. IsIntactIn f position (sector_at e position) → ⊥) (sym same) not) in
+      reach_on f c.args.base.apex c.args.room d c.entries.zone.records c.entries.cursor position direct (c.entries.invariant.reached honest position reached not) c.next_entry.new.cursor c.in-Some.found.octets.items finds.0 c.in-Ok.step.0 c.in-Ok.step.1.records
       (λ e taken. c.in-Ok.ensures.taken e taken.written (taken.octets_are ∙ sym c.deref.ensures.value) taken.applies (subst (λ a. IsZone (record { apex = a; records = applied e c.entries.zone.records })) (sym c.entries.invariant.apex) taken.valid) taken.fits)
       c.in-Ok.ensures.found.3;
 }
@@ -151,21 +151,21 @@ returns-in-Err-clause-damaged g c honest =
     c.fault_at.ensures.other)
 
 pub returns-in_err-found-clause-not_own : goal.returns-in_err-found-clause-not_own
-returns-in_err-found-clause-not_own g c honest place reached not =
+returns-in_err-found-clause-not_own g c honest position reached not =
     let f = c.args.format in
     let d = g.D.Sectors.seen c.args.device.now in
     let p = err_from_is_err_and c.from_residual.result c.from_residual.ensures.1 in
     let same = c.entries.invariant.reads.seen honest in
     let honest' = c.entries.invariant.reads.honest.1 honest in
     let e = c.in_err-found.field-0.0 in
-    let direct : c.entries.cursor.at < c.entries.cursor.until → IsReachedAt f c.entries.cursor d place → IsThat place e = λ lt there.
-    c.in_err-found.ensures.not_own honest' lt place (subst (λ e. IsReachedAt f c.entries.cursor e place) (sym same) there) (subst (λ e. IsIntactIn f place (sector_at e place) → ⊥) (sym same) not) in
+    let direct : c.entries.cursor.at < c.entries.cursor.until → IsReachedAt f c.entries.cursor d position → IsThat position e = λ lt there.
+    c.in_err-found.ensures.not_own honest' lt position (subst (λ e. IsReachedAt f c.entries.cursor e position) (sym same) there) (subst (λ e. IsIntactIn f position (sector_at e position) → ⊥) (sym same) not) in
     rw p.1
-    (reach_refused f c.args.base.apex c.args.room d c.entries.zone.records c.entries.cursor place (c.entries.invariant.reached honest place reached not) e p.0 p.2 direct
+    (reach_refused f c.args.base.apex c.args.room d c.entries.zone.records c.entries.cursor position (c.entries.invariant.reached honest position reached not) e p.0 p.2 direct
     (λ new octets finds. subst (λ k. NamesSpoilt f k c.entries.cursor.at new.at e) same (c.in_err-found.ensures.near honest' new octets (subst (λ k. FindsEntry f c.entries.cursor new k octets) (sym same) finds))))
 
 pub returns-in-Err-clause-not_own : goal.returns-in-Err-clause-not_own
-returns-in-Err-clause-not_own g c honest place reached not =
+returns-in-Err-clause-not_own g c honest position reached not =
     let f = c.args.format in
     let d = g.D.Sectors.seen c.args.device.now in
     let same = c.entries.invariant.reads.seen honest in
@@ -173,14 +173,14 @@ returns-in-Err-clause-not_own g c honest place reached not =
     let still = subst (λ e. IsAltered f d e) (sym same) (altered_itself f d) in
     let finds = subst (λ (r : Option Found). MatchOption r (IsJournalEnd f c.entries.cursor d) (λ e. FindsEntry f c.entries.cursor c.next_entry.new.cursor d e.octets.items × (e.head ≡ c.entries.cursor.at))) c.in-Some.is
     (c.in_ok-found.ensures.found honest' d still) in
-    let direct : c.entries.cursor.at < c.entries.cursor.until → IsReachedAt f c.entries.cursor d place → ⊥ = λ lt there.
-    c.in_ok-found.ensures.not_own honest' lt place (subst (λ e. IsReachedAt f c.entries.cursor e place) (sym same) there) (subst (λ e. IsIntactIn f place (sector_at e place) → ⊥) (sym same) not) in
-    let taken = reach_taken f c.args.base.apex c.args.room d c.entries.zone.records c.entries.cursor place direct (c.entries.invariant.reached honest place reached not) c.next_entry.new.cursor c.in-Some.found.octets.items finds.0 in
+    let direct : c.entries.cursor.at < c.entries.cursor.until → IsReachedAt f c.entries.cursor d position → ⊥ = λ lt there.
+    c.in_ok-found.ensures.not_own honest' lt position (subst (λ e. IsReachedAt f c.entries.cursor e position) (sym same) there) (subst (λ e. IsIntactIn f position (sector_at e position) → ⊥) (sym same) not) in
+    let taken = reach_taken f c.args.base.apex c.args.room d c.entries.zone.records c.entries.cursor position direct (c.entries.invariant.reached honest position reached not) c.next_entry.new.cursor c.in-Some.found.octets.items finds.0 in
     let is = taken.1 in
     inr (inl (c.fault_at.ensures.memory (c.in-Err.ensures.taken taken.0 is.written (is.octets_are ∙ sym c.deref.ensures.value) is.applies (subst (λ a. IsZone (record { apex = a; records = applied taken.0 c.entries.zone.records })) (sym c.entries.invariant.apex) is.valid) is.fits)))
 
 pub returns-clause-not_own : goal.returns-clause-not_own
-returns-clause-not_own g c honest place reached not =
+returns-clause-not_own g c honest position reached not =
     let f = c.args.format in
     let d = g.D.Sectors.seen c.args.device.now in
     let same = c.entries.invariant.reads.seen honest in
@@ -188,6 +188,6 @@ returns-clause-not_own g c honest place reached not =
     let still = subst (λ e. IsAltered f d e) (sym same) (altered_itself f d) in
     let ends = subst (λ (r : Option Found). MatchOption r (IsJournalEnd f c.entries.cursor d) (λ e. FindsEntry f c.entries.cursor c.next_entry.new.cursor d e.octets.items × (e.head ≡ c.entries.cursor.at))) c.in_default.is
     (c.in_ok-found.ensures.found honest' d still) in
-    let direct : c.entries.cursor.at < c.entries.cursor.until → IsReachedAt f c.entries.cursor d place → ⊥ = λ lt there.
-    c.in_ok-found.ensures.not_own honest' lt place (subst (λ e. IsReachedAt f c.entries.cursor e place) (sym same) there) (subst (λ e. IsIntactIn f place (sector_at e place) → ⊥) (sym same) not) in
-    reach_ended f c.args.base.apex c.args.room d c.entries.zone.records c.entries.cursor place direct (c.entries.invariant.reached honest place reached not) ends
+    let direct : c.entries.cursor.at < c.entries.cursor.until → IsReachedAt f c.entries.cursor d position → ⊥ = λ lt there.
+    c.in_ok-found.ensures.not_own honest' lt position (subst (λ e. IsReachedAt f c.entries.cursor e position) (sym same) there) (subst (λ e. IsIntactIn f position (sector_at e position) → ⊥) (sym same) not) in
+    reach_ended f c.args.base.apex c.args.room d c.entries.zone.records c.entries.cursor position direct (c.entries.invariant.reached honest position reached not) ends

@@ -22,8 +22,8 @@ invariant-entries g l = record {
   steps : g.D.Sectors.is_honest l.fn.device → (ss : List ReadChange) × AreStepsIn l.format l.fn.base.apex l.room (g.D.Sectors.seen l.fn.device) l.fn.cursor l.fn.base.records ss l.cursor l.zone.records;
   goes : g.D.Sectors.is_honest l.fn.device → (k : List (List ℕ)) → IsAltered l.format k (g.D.Sectors.seen l.fn.device) → (vs : Versions) (es : List Entry) → ReadsFrom l.format l.fn.cursor k es → AreChangesIn l.format l.fn.base.apex l.room l.fn.base.records vs es
       → Goes l.format l.fn.cursor l.cursor k l.fn.base.apex l.room l.fn.base.records vs es l.zone.records l.changes.items;
-  reached : g.D.Sectors.is_honest l.fn.device → (place : ℕ) → IsReachedEntryIn l.format l.fn.base.apex l.room l.fn.base.records l.fn.cursor (g.D.Sectors.seen l.fn.device) place → (IsIntactIn l.format place (sector_at (g.D.Sectors.seen l.fn.device) place) → ⊥)
-      → IsReachedEntryIn l.format l.fn.base.apex l.room l.zone.records l.cursor (g.D.Sectors.seen l.fn.device) place;
+  reached : g.D.Sectors.is_honest l.fn.device → (position : ℕ) → IsReachedEntryIn l.format l.fn.base.apex l.room l.fn.base.records l.fn.cursor (g.D.Sectors.seen l.fn.device) position → (IsIntactIn l.format position (sector_at (g.D.Sectors.seen l.fn.device) position) → ⊥)
+      → IsReachedEntryIn l.format l.fn.base.apex l.room l.zone.records l.cursor (g.D.Sectors.seen l.fn.device) position;
 }
 
 abbrev pub decreases-entries : goal.decreases-entries

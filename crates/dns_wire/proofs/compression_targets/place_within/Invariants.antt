@@ -9,7 +9,7 @@ abbrev pub invariant-labels : goal.invariant-labels
 invariant-labels l = record {
   plain : IsPlain l.rest;
   size : l.at + length l.rest ≡ 12 + length l.name;
-  place : offset_at (new_places [] 12 (labels_of l.name)) (labels_of l.suffix) ≡ offset_at (new_places [] l.at (labels_of l.rest)) (labels_of l.suffix);
+  position : offset_at (new_places [] 12 (labels_of l.name)) (labels_of l.suffix) ≡ offset_at (new_places [] l.at (labels_of l.rest)) (labels_of l.suffix);
 }
 
 abbrev pub decreases-labels : goal.decreases-labels

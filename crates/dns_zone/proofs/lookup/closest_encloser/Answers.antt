@@ -13,7 +13,7 @@ pub ancestors-preserved : goal.ancestors-preserved
 ancestors-preserved c =
     let records = c.args.records.now in
     let here = c.ancestors.here in
-    let none : exists records here ≡ false = sym (beside_is records c.args.name.now here c.args.place c.requires.order c.requires.place c.ancestors.invariant.above) ∙ sym c.ancestors-test.ensures in
+    let none : exists records here ≡ false = sym (beside_is records c.args.name.now here c.args.position c.requires.order c.requires.position c.ancestors.invariant.above) ∙ sym c.ancestors-test.ensures in
     record {
       above = under_above c.args.name.now here c.in-Some.above c.in-Some.ensures c.ancestors.invariant.above;
       same = sym (encloser_parent records here c.in-Some.above c.in-Some.ensures none) ∙ c.ancestors.invariant.same;
@@ -23,5 +23,5 @@ pub returns : goal.returns
 returns c =
     let records = c.args.records.now in
     let here = c.ancestors.here in
-    let there : exists records here ≡ true = sym (beside_is records c.args.name.now here c.args.place c.requires.order c.requires.place c.ancestors.invariant.above) ∙ sym c.ancestors-test.ensures in
+    let there : exists records here ≡ true = sym (beside_is records c.args.name.now here c.args.position c.requires.order c.requires.position c.ancestors.invariant.above) ∙ sym c.ancestors-test.ensures in
     sym (encloser_here records here there) ∙ c.ancestors.invariant.same

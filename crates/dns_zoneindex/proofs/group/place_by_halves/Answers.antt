@@ -10,7 +10,7 @@ pub halves-preserved-then-is_behind : goal.halves-preserved-then-is_behind
 halves-preserved-then-is_behind c =
     let slots = c.args.slots.now in
     let s = c.index-slots-middle.result in
-    let middle = c.halves.place + (c.halves.end - c.halves.place) / 2 in
+    let middle = c.halves.position + (c.halves.end - c.halves.position) / 2 in
     let i = c.halves.invariant in
     let at : slice_get slots middle ≡ Some s = slice_get_read slots (length slots) middle s refl (omega (arith, i.1, c.halves-test.true)) c.index-slots-middle.is in
     (omega (arith, c.halves-test.true), omega (arith, i.1, c.halves-test.true), i.2, behind_from c.args.label.now slots middle s at c.requires.kept (sym c.is_behind.ensures ∙ c.if-is_behind.true))
@@ -19,7 +19,7 @@ pub halves-preserved : goal.halves-preserved
 halves-preserved c =
     let slots = c.args.slots.now in
     let s = c.index-slots-middle.result in
-    let middle = c.halves.place + (c.halves.end - c.halves.place) / 2 in
+    let middle = c.halves.position + (c.halves.end - c.halves.position) / 2 in
     let i = c.halves.invariant in
     let at : slice_get slots middle ≡ Some s = slice_get_read slots (length slots) middle s refl (omega (arith, i.1, c.halves-test.true)) c.index-slots-middle.is in
     (omega (arith, c.halves-test.true), i.1, ahead_to c.args.label.now slots middle s at c.requires.kept c.requires.full (sym c.is_behind.ensures ∙ c.if-is_behind.false), i.3)
@@ -27,7 +27,7 @@ halves-preserved c =
 pub returns : goal.returns
 returns c =
     let i = c.halves.invariant in
-    let end : c.halves.end ≡ suc c.halves.place = omega (arith, i.0, c.halves-test.false) in
+    let end : c.halves.end ≡ suc c.halves.position = omega (arith, i.0, c.halves-test.false) in
     record {
       there = omega (arith, i.0, i.1);
       ahead = i.2;

@@ -5,9 +5,9 @@ use Rattle.dns_zoneindex.proofs.group.place_by_halves.Given as goal
 
 abbrev pub invariant-halves : goal.invariant-halves
 invariant-halves l =
-    (l.place < l.end) × (l.end ≤ length l.slots)
-    × AllChildren (λ c. label_cmp l.label c.label ≡ Greater) (joined (take l.place l.slots))
+    (l.position < l.end) × (l.end ≤ length l.slots)
+    × AllChildren (λ c. label_cmp l.label c.label ≡ Greater) (joined (take l.position l.slots))
     × AllChildren (λ c. label_cmp l.label c.label ≡ Less) (joined (drop l.end l.slots))
 
 abbrev pub decreases-halves : goal.decreases-halves
-decreases-halves l = l.end - l.place
+decreases-halves l = l.end - l.position

@@ -5,12 +5,12 @@ pub returns-then-skip-eq0 : goal.returns-then-skip-eq0
 returns-then-skip-eq0 c =
     let q = c.args.label.now in
     let slots = c.args.slots.now in
-    found_place q slots c.place_by_keys.result (c.place_by_keys.ensures.place (no_begin q slots))
+    found_place q slots c.place_by_keys.result (c.place_by_keys.ensures.position (no_begin q slots))
 
 pub returns-then-whole : goal.returns-then-whole
 returns-then-whole c =
-    let place = c.place_by_keys-then-whole in
-    found_whole c.args.skip c.args.label.now c.args.slots.now place.result (c.requires.begin.1 c.if-whole.true) c.requires.full place.ensures.there place.ensures.place
+    let position = c.place_by_keys-then-whole in
+    found_whole c.args.skip c.args.label.now c.args.slots.now position.result (c.requires.begin.1 c.if-whole.true) c.requires.full position.ensures.there position.ensures.position
 
 pub returns : goal.returns
 returns c = found_place c.args.label.now c.args.slots.now c.place_of.result c.place_of.ensures

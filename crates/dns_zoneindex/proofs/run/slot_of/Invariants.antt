@@ -4,4 +4,4 @@ use Rattle.dns_zoneindex.specs.Children.{joined}
 use Rattle.dns_zoneindex.proofs.run.slot_of.Given as goal
 
 abbrev pub invariant-loop-slot : goal.invariant-loop-slot
-invariant-loop-slot l = l.fn.place ≡ length (flat (joined (take l.slot-index l.slots))) + l.left
+invariant-loop-slot l = l.fn.position ≡ length (flat (joined (take l.slot-index l.slots))) + l.left

@@ -6,15 +6,15 @@ use Rattle.dns_commands.proofs.Verified.{spoilt_more, spoilt_no_more, tested_beh
 use Rattle.dns_commands.proofs.commands.verify.spoilt_sectors.Goals as goal
 use Rattle.dns_commands.proofs.commands.verify.spoilt_sectors.Goals.{else-not-is_well-via-then-not-is_well+else-is_err, else-not-is_well-via-else-not-is_well}
 
-pub loop-place-preserved : goal.loop-place-preserved
-loop-place-preserved g c =
-    let before = c.loop-place.invariant in
+pub loop-position-preserved : goal.loop-position-preserved
+loop-position-preserved g c =
+    let before = c.loop-position.invariant in
     let old = c.args.device.now in
-    let mid = c.loop-place.device in
+    let mid = c.loop-position.device in
     let seen = g.D.Sectors.seen old in
-    let n = c.loop-place.place in
+    let n = c.loop-position.position in
     let is_well = c.in_ok-is_well.is_well in
-    let places = c.loop-place.places.items in
+    let places = c.loop-position.places.items in
     let after = c.else-not-is_well.places.items in
     let told = λ (honest : g.D.Sectors.is_honest old). tested_behind {D = g.row.D.Denot} {g = g.D.Sectors} old mid n is_well before.reads honest c.in_ok-is_well.ensures.intact in
     record {

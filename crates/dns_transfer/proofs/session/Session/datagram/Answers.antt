@@ -17,10 +17,10 @@ returns-then-is_end g c =
     let d = c.args.self.now in
     let at = left_at c.self.inside.soa (g.I.ZoneIndex.records c.self.inside.index) c.self.inside.history in
     let octets = c.in_ok-whole.whole.items in
-    let rest = at c.in_ok-whole.place in
-    let as_begun = subst (λ (b : Building). IsFilled b.reply b.limit (at c.self.inside.place) octets rest) c.in_ok-message.ensures c.in_ok-whole.ensures in
+    let rest = at c.in_ok-whole.position in
+    let as_begun = subst (λ (b : Building). IsFilled b.reply b.limit (at c.self.inside.position) octets rest) c.in_ok-message.ensures c.in_ok-whole.ensures in
     let filled = subst (λ (s : Sending). IsFilled (message_with d.heading d.question []) 512 s.left octets rest) c.self.view_is as_begun in
-    let ended : c.in_ok-whole.place ≡ End = c.if-is_end.ensures.0 refl in
+    let ended : c.in_ok-whole.position ≡ End = c.if-is_end.ensures.0 refl in
     datagram_whole d.heading d.question d.left d.soa rest octets (ap at ended) filled
 
 pub returns-in-Open : goal.returns-in-Open
@@ -28,10 +28,10 @@ returns-in-Open g c =
     let d = c.args.self.now in
     let at = left_at c.self.inside.soa (g.I.ZoneIndex.records c.self.inside.index) c.self.inside.history in
     let octets = c.in_ok-whole.whole.items in
-    let rest = at c.in_ok-whole.place in
-    let as_begun = subst (λ (b : Building). IsFilled b.reply b.limit (at c.self.inside.place) octets rest) c.in_ok-message.ensures c.in_ok-whole.ensures in
+    let rest = at c.in_ok-whole.position in
+    let as_begun = subst (λ (b : Building). IsFilled b.reply b.limit (at c.self.inside.position) octets rest) c.in_ok-message.ensures c.in_ok-whole.ensures in
     let filled = subst (λ (s : Sending). IsFilled (message_with d.heading d.question []) 512 s.left octets rest) c.self.view_is as_begun in
-    let more = some_left c.self.inside.soa (g.I.ZoneIndex.records c.self.inside.index) c.self.inside.history c.in_ok-whole.place (λ e. (let no : IsTrue false = c.if-is_end.ensures.1 e in cc)) in
+    let more = some_left c.self.inside.soa (g.I.ZoneIndex.records c.self.inside.index) c.self.inside.history c.in_ok-whole.position (λ e. (let no : IsTrue false = c.if-is_end.ensures.1 e in cc)) in
     let pushed = subst (IsPushed c.in_ok-begun.field-0 c.as_it_stands.result) c.in-Open.is c.in_ok-alone.ensures in
     let soa = c.as_it_stands.ensures ∙ ap (λ (s : Sending). s.soa) c.self.view_is in
     let is = pushed ∙ ap (λ (b : Building). record b { reply = with_record b.reply c.as_it_stands.result }) c.in_ok-begun.ensures ∙ ap (λ (r : Record). record { reply = with_record (message_with d.heading d.question []) r; limit = 512 }) soa in
@@ -44,10 +44,10 @@ returns g c =
     let d = c.args.self.now in
     let at = left_at c.self.inside.soa (g.I.ZoneIndex.records c.self.inside.index) c.self.inside.history in
     let octets = c.in_ok-whole.whole.items in
-    let rest = at c.in_ok-whole.place in
-    let as_begun = subst (λ (b : Building). IsFilled b.reply b.limit (at c.self.inside.place) octets rest) c.in_ok-message.ensures c.in_ok-whole.ensures in
+    let rest = at c.in_ok-whole.position in
+    let as_begun = subst (λ (b : Building). IsFilled b.reply b.limit (at c.self.inside.position) octets rest) c.in_ok-message.ensures c.in_ok-whole.ensures in
     let filled = subst (λ (s : Sending). IsFilled (message_with d.heading d.question []) 512 s.left octets rest) c.self.view_is as_begun in
-    let more = some_left c.self.inside.soa (g.I.ZoneIndex.records c.self.inside.index) c.self.inside.history c.in_ok-whole.place (λ e. (let no : IsTrue false = c.if-is_end.ensures.1 e in cc)) in
+    let more = some_left c.self.inside.soa (g.I.ZoneIndex.records c.self.inside.index) c.self.inside.history c.in_ok-whole.position (λ e. (let no : IsTrue false = c.if-is_end.ensures.1 e in cc)) in
     let pushed = subst (IsPushed c.in_ok-begun.field-0 c.as_it_stands.result) c.in-Full.is c.in_ok-alone.ensures in
     let soa = c.as_it_stands.ensures ∙ ap (λ (s : Sending). s.soa) c.self.view_is in
     let over = subst (λ (b : Building). b.limit < length (text (with_record b.reply c.as_it_stands.result))) c.in_ok-begun.ensures pushed.2 in

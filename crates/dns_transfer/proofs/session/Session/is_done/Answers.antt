@@ -18,4 +18,4 @@ returns g c =
     let at = left_at s.soa (g.I.ZoneIndex.records s.index) s.history in
     let left = ap (λ (x : Sending). x.left) c.self.view_is in
     done_is c.is_end.result c.args.self.now.left (λ t. sym left ∙ ap at (c.is_end.ensures.0 t))
-    (λ not. (let more = some_left s.soa (g.I.ZoneIndex.records s.index) s.history s.place (λ e. not (c.is_end.ensures.1 e)) in (more.0, more.1, sym left ∙ more.2)))
+    (λ not. (let more = some_left s.soa (g.I.ZoneIndex.records s.index) s.history s.position (λ e. not (c.is_end.ensures.1 e)) in (more.0, more.1, sym left ∙ more.2)))

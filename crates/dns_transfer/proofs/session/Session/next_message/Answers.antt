@@ -22,8 +22,8 @@ returns-clause-sent g c =
         | in-Tcp+in_ok-message-in-Tcp+in_ok-fill-in-Tcp w ↦
             (let message = w.in_ok-message-in-Tcp.message in
             let octets = w.in_ok-fill-in-Tcp.octets.items in
-            let rest = at w.in_ok-fill-in-Tcp.place in
-            let as_begun = subst (λ (b : Building). IsFilled b.reply b.limit (at s.place) octets rest) w.in_ok-message-in-Tcp.ensures w.in_ok-fill-in-Tcp.ensures in
+            let rest = at w.in_ok-fill-in-Tcp.position in
+            let as_begun = subst (λ (b : Building). IsFilled b.reply b.limit (at s.position) octets rest) w.in_ok-message-in-Tcp.ensures w.in_ok-fill-in-Tcp.ensures in
             let filled = subst (λ (x : Sending). IsFilled (message_with d.heading d.question []) 16384 x.left octets rest) c.self.view_is as_begun in
             let next = next_of d.heading d.question d.left rest octets filled in
             let by : d.transport ≡ Tcp = sym (ap (λ (x : Sending). x.transport) c.self.view_is) ∙ w.in-Tcp.is in
@@ -42,6 +42,6 @@ returns-clause-sent g c =
 pub returns-clause-more : goal.returns-clause-more
 returns-clause-more g c none =
     let s = c.self.inside in
-    let more = some_left s.soa (g.I.ZoneIndex.records s.index) s.history s.place (λ e. (let no : IsTrue false = c.if-is_end.ensures.1 e in cc)) in
+    let more = some_left s.soa (g.I.ZoneIndex.records s.index) s.history s.position (λ e. (let no : IsTrue false = c.if-is_end.ensures.1 e in cc)) in
     let left = ap (λ (x : Sending). x.left) c.self.view_is in
     absurd (let clash = sym more.2 ∙ left ∙ none in cc)

@@ -15,33 +15,33 @@ looked k count all seen name found e f g =
 looked_through : (c : After-place_of) → c.place_of.result ≡ offset_at (take (min c.self.inside.looked_through (length c.self.inside.all.items)) c.self.inside.all.items) (labels_of c.args.suffix.now)
 looked_through c =
     let k = c.self.inside.looked_through in
-    looked k c.min-first.result c.self.inside.all.items c.as_slice.result.now (labels_of c.args.suffix.now) c.place_of.result c.place_of.ensures.place
+    looked k c.min-first.result c.self.inside.all.items c.as_slice.result.now (labels_of c.args.suffix.now) c.place_of.result c.place_of.ensures.position
     (c.min-first.ensures ∙ ap (min k) (c.len.ensures ∙ sym c.as_slice.ensures.len)) c.as_slice.ensures.value
 
 -- what is found in the bucket is found after the positions that were looked through
 in_bucket : (c : After-place_of-2) → c.place_of-2.result ≡ offset_at c.args.self.now (labels_of c.args.suffix.now)
 in_bucket c =
     let n = labels_of c.args.suffix.now in
-    c.place_of-2.ensures.place
+    c.place_of-2.ensures.position
     ∙ ap (λ (ps : List Place). offset_at ps n) (c.places_in.ensures ∙ ap (λ (bs : List (List Place)). get_or bs c.bucket_of-number.result []) c.deref.ensures.value ∙ ap (λ (k : ℕ). get_or c.self.inside.later.items k []) c.bucket_of-number.ensures)
     ∙ c.self.invariant.at c.args.suffix.now c.requires
     ∙ found_later c.self.inside.looked_through c.self.inside.all.items n
-    (sym c.in_default.is ∙ looked c.self.inside.looked_through c.min-first.result c.self.inside.all.items c.as_slice.result.now n c.place_of.result c.place_of.ensures.place
+    (sym c.in_default.is ∙ looked c.self.inside.looked_through c.min-first.result c.self.inside.all.items c.as_slice.result.now n c.place_of.result c.place_of.ensures.position
     (c.min-first.ensures ∙ ap (min c.self.inside.looked_through) (c.len.ensures ∙ sym c.as_slice.ensures.len)) c.as_slice.ensures.value)
     ∙ ap (λ (ps : List Place). offset_at ps n) c.self.view_is
 
-pub returns-in-Some-clause-place : goal.returns-in-Some-clause-place
-returns-in-Some-clause-place c =
+pub returns-in-Some-clause-position : goal.returns-in-Some-clause-position
+returns-in-Some-clause-position c =
     let n = labels_of c.args.suffix.now in
     let all = c.self.inside.all.items in
-    found_first c.self.inside.looked_through all n c.in-Some.found (sym c.in-Some.is ∙ looked_through (goal.at.returns-in-Some-clause-place c).After-place_of)
+    found_first c.self.inside.looked_through all n c.in-Some.found (sym c.in-Some.is ∙ looked_through (goal.at.returns-in-Some-clause-position c).After-place_of)
     ∙ ap (λ (ps : List Place). offset_at ps n) c.self.view_is
 
-pub returns-in-Some-place_of-clause-place : goal.returns-in-Some-place_of-clause-place
-returns-in-Some-place_of-clause-place c = sym c.in-Some-place_of.is ∙ in_bucket (goal.at.returns-in-Some-place_of-clause-place c).After-place_of-2
+pub returns-in-Some-place_of-clause-position : goal.returns-in-Some-place_of-clause-position
+returns-in-Some-place_of-clause-position c = sym c.in-Some-place_of.is ∙ in_bucket (goal.at.returns-in-Some-place_of-clause-position c).After-place_of-2
 
-pub returns-in_ok-keep_later-clause-place : goal.returns-in_ok-keep_later-clause-place
-returns-in_ok-keep_later-clause-place c = sym c.in_default-place_of.is ∙ in_bucket (goal.at.returns-in_ok-keep_later-clause-place c).After-place_of-2
+pub returns-in_ok-keep_later-clause-position : goal.returns-in_ok-keep_later-clause-position
+returns-in_ok-keep_later-clause-position c = sym c.in_default-place_of.is ∙ in_bucket (goal.at.returns-in_ok-keep_later-clause-position c).After-place_of-2
 
-pub returns-else-offset-lt16384-2-clause-place : goal.returns-else-offset-lt16384-2-clause-place
-returns-else-offset-lt16384-2-clause-place c = sym c.in_default-place_of.is ∙ in_bucket (goal.at.returns-else-offset-lt16384-2-clause-place c).After-place_of-2
+pub returns-else-offset-lt16384-2-clause-position : goal.returns-else-offset-lt16384-2-clause-position
+returns-else-offset-lt16384-2-clause-position c = sym c.in_default-place_of.is ∙ in_bucket (goal.at.returns-else-offset-lt16384-2-clause-position c).After-place_of-2

@@ -10,20 +10,20 @@ among : (found : Option ℕ) (front back all : List Place) (name : Labels) → f
 among None front back all name e is = tt
 among (Some offset) front back all name e is = among_first front back name offset e ∙ ap (λ (ps : List Place). offset_at ps name) is
 
-pub returns-in-Some-clause-place : goal.returns-in-Some-clause-place
-returns-in-Some-clause-place c =
+pub returns-in-Some-clause-position : goal.returns-in-Some-clause-position
+returns-in-Some-clause-position c =
     let n = labels_of c.args.suffix.now in
     let first = new_places [] 12 (labels_of c.self.inside.first.now) in
     let few = c.self.inside.few.items in
-    among_first (first ++ few) c.self.inside.listed n c.in-Some.found (among_first first few n c.in-Some.found (sym c.in-Some.is ∙ c.place_within.ensures.place))
+    among_first (first ++ few) c.self.inside.listed n c.in-Some.found (among_first first few n c.in-Some.found (sym c.in-Some.is ∙ c.place_within.ensures.position))
     ∙ ap (λ (ps : List Place). offset_at ps n) c.self.view_is
 
-pub returns-clause-place : goal.returns-clause-place
-returns-clause-place c =
+pub returns-clause-position : goal.returns-clause-position
+returns-clause-position c =
     let n = labels_of c.args.suffix.now in
     let first = new_places [] 12 (labels_of c.self.inside.first.now) in
     let few = c.self.inside.few.items in
     let here : c.place_of.result ≡ offset_at (first ++ few) n =
-    c.place_of.ensures.place ∙ ap (λ (ps : List Place). offset_at ps n) c.as_slice.ensures.value
-    ∙ behind_first first few n (sym c.in_default.is ∙ c.place_within.ensures.place) in
+    c.place_of.ensures.position ∙ ap (λ (ps : List Place). offset_at ps n) c.as_slice.ensures.value
+    ∙ behind_first first few n (sym c.in_default.is ∙ c.place_within.ensures.position) in
     among c.place_of.result (first ++ few) c.self.inside.listed c.args.self.now n here c.self.view_is

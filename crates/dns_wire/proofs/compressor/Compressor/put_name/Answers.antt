@@ -27,10 +27,10 @@ pointer_left c =
     let known = c.args.self.now.places in
     let all = compressed_name known (length before) (labels_of c.args.name.now) in
     let f = first_label c.labels.rest.now c.labels.invariant.plain c.labels-test.true in
-    let place : Some c.in-Some.offset ≡ option_map (λ p. p.offset) (place_of known (f.label ∷ f.rest)) =
-    sym c.in-Some.is ∙ c.in_ok-offset.ensures.place ∙ c.labels.invariant.still (labels_of c.labels.rest.now) (omega (arith)) ∙ ap (offset_at known) f.is in
+    let position : Some c.in-Some.offset ≡ option_map (λ p. p.offset) (place_of known (f.label ∷ f.rest)) =
+    sym c.in-Some.is ∙ c.in_ok-offset.ensures.position ∙ c.labels.invariant.still (labels_of c.labels.rest.now) (omega (arith)) ∙ ap (offset_at known) f.is in
     let left : NameLeft before all known c.labels.self.octets.items c.labels.self.places (f.label ∷ f.rest) = subst (λ (n : Labels). NameLeft before all known c.labels.self.octets.items c.labels.self.places n) f.is c.labels.invariant.left in
-    name_known before all known c.labels.self.octets.items c.labels.self.places f.label f.rest c.in-Some.offset (pointer c.in-Some.offset) place refl left
+    name_known before all known c.labels.self.octets.items c.labels.self.places f.label f.rest c.in-Some.offset (pointer c.in-Some.offset) position refl left
 
 pub returns-in-Some-clause-written : goal.returns-in-Some-clause-written
 returns-in-Some-clause-written c =
@@ -64,7 +64,7 @@ next c =
     let rest = c.labels.rest.now in
     let known = c.args.self.now.places in
     let f = first_label rest c.labels.invariant.plain c.labels-test.true in
-    let none = sym c.in_default.is ∙ c.in_ok-offset.ensures.place in
+    let none = sym c.in_default.is ∙ c.in_ok-offset.ensures.position in
     let width : 1 + get_or rest 0 0 ≡ 1 + length f.label = ap (λ (k : ℕ). 1 + k) f.count in
     let back : c.split_at.result.1.now ≡ drop (1 + length f.label) rest = c.split_at.ensures.back ∙ ap (λ (k : ℕ). drop k rest) width in
     record {

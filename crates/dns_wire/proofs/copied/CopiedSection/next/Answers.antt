@@ -24,16 +24,16 @@ number-size-requires c =
     let s = c.self.inside in
     let n = next_item s.message.now s.next s.left c.self.invariant.records c.if-self-eq0.false in
     let f = c.behind_name-behind_owner.ensures in
-    let place = owner_place s.message.now s.next n.item n.mid n.stands f.0 c.behind_name-behind_owner.result f.1 in
+    let position = owner_place s.message.now s.next n.item n.mid n.stands f.0 c.behind_name-behind_owner.result f.1 in
     let inside : n.stands.mid + 8 + 2 ≤ length s.message.now = n.stands.counted.inside in
-    omega (arith, place, inside)
+    omega (arith, position, inside)
 
 pub copy_data-requires-clause-there : goal.copy_data-requires-clause-there
 copy_data-requires-clause-there c =
     let s = c.self.inside in
     let n = next_item s.message.now s.next s.left c.self.invariant.records c.if-self-eq0.false in
     let f = c.behind_name-behind_owner.ensures in
-    record { item = n.item; stop = n.mid; stands = n.stands; place = owner_place s.message.now s.next n.item n.mid n.stands f.0 c.behind_name-behind_owner.result f.1 }
+    record { item = n.item; stop = n.mid; stands = n.stands; position = owner_place s.message.now s.next n.item n.mid n.stands f.0 c.behind_name-behind_owner.result f.1 }
 
 pub invariant_of-self-2 : goal.invariant_of-self-2
 invariant_of-self-2 c =
@@ -56,7 +56,7 @@ returns-clause-some c =
     let f = c.behind_name-behind_owner.ensures in
     let at = c.behind_name-behind_owner.result in
     let e = next_end m s.next n.item n.mid n.stands f.0 at c.number-size.result f.1 c.number-size.ensures in
-    let shown : n.item ≡ item_shown m s.next at = sym (item_is_shown m s.next n.item n.mid n.stands) ∙ ap (item_shown m s.next) e.place in
+    let shown : n.item ≡ item_shown m s.next at = sym (item_is_shown m s.next n.item n.mid n.stands) ∙ ap (item_shown m s.next) e.position in
     let rest : n.rest ≡ items_left m (at + 10 + c.number-size.result) (s.left - 1) = sym (left_is m n.mid (s.left - 1) n.behind ∙ n.left) ∙ ap (λ (k : ℕ). items_left m k (s.left - 1)) e.end in
     let copy : ResourceRecord = record { owner = c.in_ok-owner.owner; rtype = c.number.result; class = c.number-2.result; ttl = c.long_number.result; rdata = c.in_ok-rdata.rdata.items } in
     let whole : item_shown m s.next at ≡ copy = shown_parts m s.next at c.in_ok-owner.owner c.number.result c.number-2.result c.long_number.result c.in_ok-rdata.rdata.items c.in_ok-owner.ensures.name c.number.ensures.read c.number-2.ensures.read c.long_number.ensures.read c.in_ok-rdata.ensures.data in

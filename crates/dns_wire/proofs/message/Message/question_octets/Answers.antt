@@ -24,8 +24,8 @@ slice_bounds-result-end c =
     let inside = h.inside in
     omega arith
 
-pub returns-clause-place : goal.returns-clause-place
-returns-clause-place c =
+pub returns-clause-position : goal.returns-clause-position
+returns-clause-position c =
     let s = c.self.inside in
     let h = behind_header s.octets.now (received s.octets.now).message s.answers s.authorities s.additionals c.self.invariant in
     ap (λ (k : ℕ). slice_range s.octets.now 12 k) h.ends ∙ ap (λ (m : List ℕ). slice_range m 12 (12 + length (slice_range s.octets.now 12 s.answers))) (octets_of s.octets.now c.args.self.now c.self.view_is)

@@ -20,16 +20,16 @@ number-size-requires c =
     let s = c.self.inside in
     let n = next_item s.message.now s.next s.left c.self.invariant c.if-self-eq0.false in
     let f = c.behind_name-behind_owner.ensures in
-    let place = owner_place s.message.now s.next n.item n.mid n.stands f.0 c.behind_name-behind_owner.result f.1 in
+    let position = owner_place s.message.now s.next n.item n.mid n.stands f.0 c.behind_name-behind_owner.result f.1 in
     let inside : n.stands.mid + 8 + 2 ≤ length s.message.now = n.stands.counted.inside in
-    omega (arith, place, inside)
+    omega (arith, position, inside)
 
 pub invariant_of-result : goal.invariant_of-result
 invariant_of-result c =
     let s = c.self.inside in
     let n = next_item s.message.now s.next s.left c.self.invariant c.if-self-eq0.false in
     let f = c.behind_name-behind_owner.ensures in
-    record { item = n.item; stop = n.mid; stands = n.stands; place = owner_place s.message.now s.next n.item n.mid n.stands f.0 c.behind_name-behind_owner.result f.1 }
+    record { item = n.item; stop = n.mid; stands = n.stands; position = owner_place s.message.now s.next n.item n.mid n.stands f.0 c.behind_name-behind_owner.result f.1 }
 
 pub invariant_of-self : goal.invariant_of-self
 invariant_of-self c =
@@ -46,6 +46,6 @@ returns-clause-some c =
     let n = next_item m s.next s.left c.self.invariant c.if-self-eq0.false in
     let f = c.behind_name-behind_owner.ensures in
     let e = next_end m s.next n.item n.mid n.stands f.0 c.behind_name-behind_owner.result c.number-size.result f.1 c.number-size.ensures in
-    let shown : n.item ≡ item_shown m s.next c.behind_name-behind_owner.result = sym (item_is_shown m s.next n.item n.mid n.stands) ∙ ap (item_shown m s.next) e.place in
+    let shown : n.item ≡ item_shown m s.next c.behind_name-behind_owner.result = sym (item_is_shown m s.next n.item n.mid n.stands) ∙ ap (item_shown m s.next) e.position in
     let rest : n.rest ≡ items_left m (c.behind_name-behind_owner.result + 10 + c.number-size.result) (s.left - 1) = sym (left_is m n.mid (s.left - 1) n.behind ∙ n.left) ∙ ap (λ (k : ℕ). items_left m k (s.left - 1)) e.end in
     sym c.self.view_is ∙ left_is m s.next s.left c.self.invariant ∙ n.is ∙ ap (λ (r : ResourceRecord). r ∷ n.rest) shown ∙ ap (λ (xs : List ResourceRecord). item_shown m s.next c.behind_name-behind_owner.result ∷ xs) rest

@@ -27,17 +27,17 @@ gathered-requires-clause-full t c =
     let g = c.deref-in-Many in
     let slots = g.inside.slots.items in
     let q = c.args.label.now in
-    let h = at_place q q slots c.deref-in-Many-2.result.now c.place_of-place.result c.index.result.now refl c.deref-in-Many-2.ensures.value c.place_of-place.ensures c.index.ensures in
-    full_in slots c.deref-in-Many-3.result.now c.in_ok-rest-in-Many.rest.items c.in_ok-replaced-in-Many.field-0.items c.place_of-place.result c.index.result.now h.1 g.invariant.1 c.in_ok-rest-in-Many.ensures.full c.deref-in-Many-3.ensures.value c.in_ok-replaced-in-Many.ensures
+    let h = at_place q q slots c.deref-in-Many-2.result.now c.place_of-position.result c.index.result.now refl c.deref-in-Many-2.ensures.value c.place_of-position.ensures c.index.ensures in
+    full_in slots c.deref-in-Many-3.result.now c.in_ok-rest-in-Many.rest.items c.in_ok-replaced-in-Many.field-0.items c.place_of-position.result c.index.result.now h.1 g.invariant.1 c.in_ok-rest-in-Many.ensures.full c.deref-in-Many-3.ensures.value c.in_ok-replaced-in-Many.ensures
 
 pub gathered-requires-clause-kept : goal.gathered-requires-clause-kept
 gathered-requires-clause-kept t c =
     let g = c.deref-in-Many in
     let slots = g.inside.slots.items in
     let q = c.args.label.now in
-    let h = at_place q q slots c.deref-in-Many-2.result.now c.place_of-place.result c.index.result.now refl c.deref-in-Many-2.ensures.value c.place_of-place.ensures c.index.ensures in
+    let h = at_place q q slots c.deref-in-Many-2.result.now c.place_of-position.result c.index.result.now refl c.deref-in-Many-2.ensures.value c.place_of-position.ensures c.index.ensures in
     let is = g.view_is ∙ c.deref.ensures ∙ sym (ap items c.in-Many.is) in
-    let left = without_in q (items c.args.self.now) slots c.deref-in-Many-3.result.now c.in_ok-rest-in-Many.rest.items c.in_ok-replaced-in-Many.field-0.items c.place_of-place.result c.index.result.now (items c.behind-slots.inside.children) is h c.behind-slots.view_is c.in_ok-rest-in-Many.ensures.taken c.deref-in-Many-3.ensures.value c.in_ok-replaced-in-Many.ensures in
+    let left = without_in q (items c.args.self.now) slots c.deref-in-Many-3.result.now c.in_ok-rest-in-Many.rest.items c.in_ok-replaced-in-Many.field-0.items c.place_of-position.result c.index.result.now (items c.behind-slots.inside.children) is h c.behind-slots.view_is c.in_ok-rest-in-Many.ensures.taken c.deref-in-Many-3.ensures.value c.in_ok-replaced-in-Many.ensures in
     subst AreChildren (sym left) (children_without q (items c.args.self.now) (subst AreChildren is g.invariant.0))
 
 pub returns-in_ok-replaced-in-Many-clause-taken : goal.returns-in_ok-replaced-in-Many-clause-taken
@@ -45,7 +45,7 @@ returns-in_ok-replaced-in-Many-clause-taken t c =
     let g = c.deref-in-Many in
     let slots = g.inside.slots.items in
     let q = c.args.label.now in
-    let h = at_place q q slots c.deref-in-Many-2.result.now c.place_of-place.result c.index.result.now refl c.deref-in-Many-2.ensures.value c.place_of-place.ensures c.index.ensures in
+    let h = at_place q q slots c.deref-in-Many-2.result.now c.place_of-position.result c.index.result.now refl c.deref-in-Many-2.ensures.value c.place_of-position.ensures c.index.ensures in
     let is = g.view_is ∙ c.deref.ensures ∙ sym (ap items c.in-Many.is) in
-    let left = without_in q (items c.args.self.now) slots c.deref-in-Many-3.result.now c.in_ok-rest-in-Many.rest.items c.in_ok-replaced-in-Many.field-0.items c.place_of-place.result c.index.result.now (items c.behind-slots.inside.children) is h c.behind-slots.view_is c.in_ok-rest-in-Many.ensures.taken c.deref-in-Many-3.ensures.value c.in_ok-replaced-in-Many.ensures in
+    let left = without_in q (items c.args.self.now) slots c.deref-in-Many-3.result.now c.in_ok-rest-in-Many.rest.items c.in_ok-replaced-in-Many.field-0.items c.place_of-position.result c.index.result.now (items c.behind-slots.inside.children) is h c.behind-slots.view_is c.in_ok-rest-in-Many.ensures.taken c.deref-in-Many-3.ensures.value c.in_ok-replaced-in-Many.ensures in
     if_ok c.gathered.result (λ made e. e ∙ left) c.gathered.ensures.made

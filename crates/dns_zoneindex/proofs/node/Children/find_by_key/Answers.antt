@@ -24,6 +24,6 @@ down-preserved c =
     let slots = g.inside.slots.items in
     let s = c.index.result.now in
     ap (child_of q) c.behind-slots.view_is
-    ∙ found_in q slots c.deref-in-Many-2.result.now c.place_to_find-place.result s c.deref-in-Many-2.ensures.value c.place_to_find-place.ensures c.index.ensures
+    ∙ found_in q slots c.deref-in-Many-2.result.now c.place_to_find-position.result s c.deref-in-Many-2.ensures.value c.place_to_find-position.ensures c.index.ensures
     ∙ ap (child_of q) (g.view_is ∙ c.deref.ensures ∙ sym (ap items c.in-Many.is))
     ∙ c.down.invariant

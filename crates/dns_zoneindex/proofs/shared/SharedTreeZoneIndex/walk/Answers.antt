@@ -10,9 +10,9 @@ use Rattle.dns_zoneindex.proofs.shared.SharedTreeZoneIndex.walk.Goals.{in-None, 
 pub returns : goal.returns
 returns c =
     let xs = path_records c.args.self.now.tree in
-    let place = c.match-after.place in
-    let next : slice_get xs place ≡ next_after (option_copied c.args.after) xs = elim c.match-after.branch [
-      | in-None w ↦ ap (slice_get xs) w.place-is ∙ first_record xs ∙ ap (λ o. next_after (option_copied o) xs) (sym w.in-None.is)
-      | in-Some w ↦ ap (slice_get xs) w.place-is ∙ w.count_to-place.ensures ∙ ap (λ o. next_after (option_copied o) xs) (sym w.in-Some.is)
+    let position = c.match-after.position in
+    let next : slice_get xs position ≡ next_after (option_copied c.args.after) xs = elim c.match-after.branch [
+      | in-None w ↦ ap (slice_get xs) w.position-is ∙ first_record xs ∙ ap (λ o. next_after (option_copied o) xs) (sym w.in-None.is)
+      | in-Some w ↦ ap (slice_get xs) w.position-is ∙ w.count_to-position.ensures ∙ ap (λ o. next_after (option_copied o) xs) (sym w.in-Some.is)
     ] in
-    c.first.ensures.value ∙ lent_first xs place c.run_from.result.now c.run_from.ensures ∙ next
+    c.first.ensures.value ∙ lent_first xs position c.run_from.result.now c.run_from.ensures ∙ next
