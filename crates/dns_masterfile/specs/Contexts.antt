@@ -5,7 +5,7 @@ use Rattle.dns_masterfile.specs.declared.FileError.TheVariants.{OutOfMemory}
 use Rattle.dns_masterfile.specs.Pieces.{Word}
 use Rattle.dns_masterfile.specs.Entries.{FileEntry}
 use Rattle.dns_masterfile.specs.Left.{Left, no_words, entry_at}
-use Rattle.dns_masterfile.specs.Reading.{ReadResult}
+use Rattle.dns_masterfile.specs.Reading.{ReadResult, directive_in}
 use Rattle.dns_masterfile.specs.Meaning.{Context, Said, Nothing, Origin, Default, Item}
 use Rattle.dns_masterfile.specs.declared.context.Context.{Context as Kept}
 use Rattle.dns_masterfile.specs.declared.context.Said.{Said as Found}
@@ -19,6 +19,10 @@ stated_said found.Nothing = Nothing
 stated_said (found.Origin name) = Origin name
 stated_said (found.Default ttl) = Default ttl
 stated_said (found.Item r written) = Item r written
+
+-- what an entry says whose first word is that of a directive, with the words that are left
+abbrev pub directive_after : Kept → Word → Left → FileEntry → ReadResult Said
+directive_after context word left = λ e. directive_in (stated_context context) e word left.words
 
 -- The entry says that, whatever its line, and nothing of it is left.
 abbrev pub SaysWhole : (FileEntry → ReadResult Said) → Bool → Left → Left → Found → Type 0

@@ -2,9 +2,9 @@
 ghost use Rattle.std.specs.Prelude.{◌≡◌, true, false, Err, IfOk, MatchResult};
 ghost use Rattle.dns_records.specs.Types.{is_data_type};
 ghost use Rattle.dns_masterfile.specs.Left.{word_before};
-ghost use Rattle.dns_masterfile.specs.Reading.{directive_in, item_in, said_by, take_owner, take_type};
+ghost use Rattle.dns_masterfile.specs.Reading.{item_in, said_by, take_owner, take_type};
 ghost use Rattle.dns_masterfile.specs.Scan.{stated_word};
-ghost use Rattle.dns_masterfile.specs.Contexts.{Faults, SaysWhole, has_ended, stated_context};
+ghost use Rattle.dns_masterfile.specs.Contexts.{Faults, SaysWhole, directive_after, has_ended, stated_context};
 ghost use Rattle.dns_masterfile.specs.Taking.{RefusesFor, TakesValue};
 
 use crate::FileError;
@@ -97,11 +97,8 @@ impl<'a> Scanner<'a> {
         word: Word<'_>,
     ) -> Result<Said, FileError>
         ensures { MatchResult result
-            (SaysWhole (λ e. directive_in (stated_context context.now) e
-            (stated_word word.entry) self.old.words)
-            false self.old self.new)
-            (Faults (λ e. directive_in (stated_context context.now) e (stated_word word.entry) self.old.words)
-            false self.old) }
+            (SaysWhole (directive_after context.now (stated_word word.entry) self.old) false self.old self.new)
+            (Faults (directive_after context.now (stated_word word.entry) self.old) false self.old) }
     {
         if word.is_keyword(b"$ORIGIN") {
             let name = self.take_name(alloc, &context.origin)?;

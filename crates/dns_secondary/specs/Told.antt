@@ -9,6 +9,7 @@ use Rattle.dns_request.specs.declared.request.Transport.TheVariants.{Udp, Tcp}
 use Rattle.dns_secondary.specs.State.{State, Begun, Led, Whole, Removing, Adding, Ended, IsUnfinished}
 use Rattle.dns_secondary.specs.Rest.{is_current, Rest, Reaches, FailsBy}
 use Rattle.dns_secondary.specs.Taken.{IsBeginning}
+use Rattle.dns_secondary.specs.Received.{is_incremental, received_count}
 use Rattle.dns_secondary.specs.Receiving.{Receiving, header_fault}
 use Rattle.dns_secondary.specs.declared.fault.Fault.{Fault}
 use Rattle.dns_secondary.specs.declared.fault.Fault.TheVariants.{OutOfMemory, BadMessage, InvalidZone}
@@ -87,6 +88,13 @@ pub record Hears (s : Receiving) (at : State) (octets : List ℕ) (progress : Pr
 -- The answer is not over, and octets are heard.
 abbrev pub Feeds : Receiving → List ℕ → Progress → Receiving → Type 0
 Feeds s octets progress new = (at : State) × (s.state ≡ Some at) × Hears s at octets progress new
+
+-- If no more records have come than before, and the answer is no changes, nothing has changed.
+abbrev pub StaysIfNoneCame : Receiving → Receiving → Type 0
+StaysIfNoneCame old new =
+    is_incremental new.state ≡ false
+    → received_count new.state ≡ received_count old.state
+    → new ≡ old
 
 -- Octets are no message; or it is refused by its header.
 abbrev pub RefusesMessage : Receiving → List ℕ → Fault → Type 0

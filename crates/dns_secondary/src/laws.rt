@@ -12,7 +12,7 @@ ghost use Rattle.dns_secondary.specs.Rest.{Rest, Reaches};
 ghost use Rattle.dns_secondary.specs.Taken.{Applies, Taken};
 ghost use Rattle.dns_secondary.specs.Receiving.{Receiving};
 ghost use Rattle.dns_secondary.specs.Received.{received_count, is_incremental};
-ghost use Rattle.dns_secondary.specs.Told.{Feeds, IsMore, TellsProgress};
+ghost use Rattle.dns_secondary.specs.Told.{Feeds, IsMore, StaysIfNoneCame, TellsProgress};
 ghost use Rattle.dns_secondary.specs.declared.fault.Progress.TheVariants.{More};
 
 /// What a whole answer means when it is read record by record is what it means by its form alone: the SOA of
@@ -59,7 +59,5 @@ pub fn idle_law()
         → s.state ≡ Some at
         → Reaches s.apex s.held Begun before at
         → Feeds s octets More new
-        → is_incremental new.state ≡ false
-        → received_count new.state ≡ received_count s.state
-        → new ≡ s }
+        → StaysIfNoneCame s new }
 {}

@@ -6,7 +6,7 @@ use Rattle.dns_names.specs.Name.{Labels, wire, labels_of}
 use Rattle.dns_records.specs.Types.{Field, Values, octet_count, Name, UncompressedName, Strings, form}
 use Rattle.dns_records.specs.Types.{class_in}
 use Rattle.dns_records.specs.Record.{Record}
-use Rattle.dns_wire.specs.Compress.{Place, place_of, pointer}
+use Rattle.dns_wire.specs.Compress.{Place, compress_name, place_of, pointer}
 use Rattle.dns_wire.specs.Text.{Reply, header_octets, question_octets}
 
 -- A name field that pointers may name: the name, and from which offset up to which it is written.
@@ -73,6 +73,14 @@ pub record FieldCompressed (text : List ℕ) (earlier : List Used) (at : ℕ) (n
 
 abbrev pub and_field : List Used → ℕ → ℕ → Labels → List Used
 and_field earlier from to name = earlier ++ (record { from = from; to = to; name = name }) ∷ []
+
+-- the name fields with one more, written at an offset with pointers to these places
+abbrev pub and_written : List Used → List Place → ℕ → Labels → List Used
+and_written earlier places at name = and_field earlier at (at + length (compress_name places name)) name
+
+-- Each suffix that occurs does so before an offset.
+abbrev pub OccurBefore : List Used → ℕ → Type 0
+OccurBefore earlier at = (offset : ℕ) (suffix : Labels) → OccursAt earlier offset suffix → offset < at
 
 -- The parts of a record's data, and the name fields that there are after them. Names are compressed, an SRV's
 -- target is written in full and never named by a pointer (RFC 2782), all else is written as it is.

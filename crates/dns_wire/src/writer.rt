@@ -9,7 +9,8 @@ ghost use Rattle.dns_wire.specs.Valid.{IsReply, message_of_reply};
 ghost use Rattle.dns_wire.specs.Text.{Reply as Stated, text, header_octets};
 ghost use Rattle.dns_names.specs.Name.{Labels};
 ghost use Rattle.dns_wire.specs.Compress.{Place, compress_name, new_places};
-ghost use Rattle.dns_wire.specs.Compressed.{Used, OccursAt, IsWritten, AreThePlaces, IsCompressed, and_field};
+ghost use Rattle.dns_wire.specs.Compressed.{Used, OccursAt, OccurBefore, IsWritten, AreThePlaces, IsCompressed};
+ghost use Rattle.dns_wire.specs.Compressed.{and_written};
 
 use crate::compression_targets::Places;
 use crate::compressor::Compressor;
@@ -156,7 +157,6 @@ pub fn one_compressed_text()
     ensures first { AreThePlaces (OccursAt []) [] }
     ensures next { (earlier : List Used) (places : List Place) (at : ℕ) (name : Labels)
         → AreThePlaces (OccursAt earlier) places
-        → ((offset : ℕ) (suffix : Labels) → OccursAt earlier offset suffix → offset < at)
-        → AreThePlaces (OccursAt (and_field earlier at (at + length (compress_name places name)) name))
-        (places ++ new_places places at name) }
+        → OccurBefore earlier at
+        → AreThePlaces (OccursAt (and_written earlier places at name)) (places ++ new_places places at name) }
 {}

@@ -19,6 +19,10 @@ pub record LeadsToName (z : Zone) (es : List PathRecord) (name : Labels) (own : 
   pub uncut : cut z name ≡ None
   pub own_is : own ≡ below (reverse name) es
 
+-- the same of the zone of the records with an apex
+abbrev pub LeadsIn : Labels → List PathRecord → Labels → List PathRecord → Type 0
+LeadsIn apex es name own = LeadsToName (zone_of_entries apex es) es name own
+
 -- The name is below no cut and doesn't exist, and these are the entries at and under its closest encloser.
 pub record LeadsAbove (z : Zone) (es : List PathRecord) (name at : Labels) (own : List PathRecord)
     : Type 0 where

@@ -8,7 +8,7 @@ ghost use Rattle.dns_zone.specs.Node.{cuts_at, IsMatch};
 ghost use Rattle.dns_zone.specs.Records.{is_ordered, owns_type, records_at};
 ghost use Rattle.dns_zoneindex.specs.Entries.{PathRecord};
 ghost use Rattle.dns_zoneindex.specs.Owned.{path_records, are_owned};
-ghost use Rattle.dns_zoneindex.specs.Reach.{zone_of_entries, LeadsToName, IsReached};
+ghost use Rattle.dns_zoneindex.specs.Reach.{zone_of_entries, LeadsIn, IsReached};
 
 use crate::node::Node;
 use crate::path::split;
@@ -62,7 +62,7 @@ fn next<'n, 's>(
         → are_owned es ≡ true
         → is_ordered (path_records es) ≡ true
         → name.now ≡ label.now ∷ above.entry
-        → LeadsToName (zone_of_entries apex.now es) es above.entry node.now.own
+        → LeadsIn apex.now es above.entry node.now.own
         → IsReached (zone_of_entries apex.now es) es name.now result }
 {
     match node.child(label) {
