@@ -2,7 +2,7 @@
 use Rattle.std.specs.Prelude.{◌≡◌, ◌⊎◌, ◌≤◌, true, ℕ, ◌+◌, ◌-◌, ◌*◌, List, [], ◌∷◌, ◌++◌, length, take, drop}
 use Rattle.std.specs.Prelude.{replicate}
 use Rattle.std.specs.List.{flat_map}
-use Rattle.dns_sectors.specs.Device.{Content}
+use Rattle.dns_sectors.specs.Device.{Content, Only}
 use Rattle.dns_sectors.specs.Crash.{Write}
 use Rattle.dns_layout.specs.Apex.{apex_octets}
 use Rattle.dns_layout.specs.Sector.{open_count, sequence_number, number, bank_open, payload, payload_room}
@@ -114,6 +114,10 @@ snapshot_room_of journal = journal.root.snapshot_room
 abbrev pub journal_room_of : {D : Type 0} {g : Ghosts D} → Journal D g → ℕ
 journal_room_of journal = journal.root.journal_room
 
+-- the sizes that a root says
+abbrev pub sizes_said : Root → Sizes
+sizes_said r = record { snapshot = r.snapshot_room; journal = r.journal_room; apex = r.apex }
+
 -- These writes put a snapshot and the entries of changes into a bank, all with this open count, and the
 -- cursor is past them.
 pub record LaysBank (s : Sizes) (bank opened base : ℕ) (octets : List ℕ) (changes : List Change)
@@ -162,6 +166,19 @@ pub record Turns (s : Sizes) (k new : Stored) (x : List ℕ) (r : Root) (ws : Li
   pub own : AreOwn ws
   pub written : ws ≡ writes_from (snapshot_place s (other_of (number x))) parts ++ writes_from
       (journal_place s (other_of (number x))) (sectors_of_entries new.entries)
+
+-- Of each turn that these writes and this root make of what an honest device holds, P: everything on it is
+-- durable, and no head on it is ahead of what is stored.
+abbrev pub EachTurn : {D : Type 0} → Ghosts D → D → Root → List Write
+    → (Sizes → Stored → Stored → List ℕ → Type 0) → Type 0
+EachTurn g device r ws P =
+    (s : Sizes) (k new : Stored) (x : List ℕ) (parts : List (List ℕ))
+    → g.is_honest device → Only (g.seen device) (g.may_leave device)
+    → OpensBy s (g.seen device) x parts k
+    → bank_open x ≤ open_count x
+    → AllBehind (open_count x) (version_of k) (g.seen device)
+    → Turns s k new x r ws
+    → P s k new x
 
 -- It opens as what was to be stored, by this root, and no head anywhere is ahead.
 pub record IsTurnedTo (s : Sizes) (new : Stored) (r : Root) (opened : ℕ) (c : Content) : Type 0 where

@@ -1,6 +1,7 @@
 -- The bank that isn't in use is cleared, and a root of the same store is written.
 use Rattle.std.specs.Prelude.{◌≡◌, ◌⊎◌, ◌≤◌, ℕ, List}
 use Rattle.dns_sectors.specs.Device.{Content}
+use Rattle.dns_sectors.specs.declared.device.Sectors.{Ghosts}
 use Rattle.dns_layout.specs.Sector.{open_count, number, bank_open, sequence_number, snapshot_length, clear}
 use Rattle.dns_layout.specs.Own.{Own}
 use Rattle.dns_journal.specs.State.{IsOpenedTimes}
@@ -27,6 +28,15 @@ pub record IsToClear (s : Sizes) (k : Stored) (x : List ℕ) (parts : List (List
   pub names : NamesSameBank x z
   pub no_lower : open_count x ≤ open_count z
   pub own : Own 0 z
+
+-- Of each store on an honest device that is to be cleared so, P.
+abbrev pub EachToClear : {D : Type 0} → Ghosts D → D → ℕ → ℕ → List ℕ
+    → (Sizes → Stored → List ℕ → List (List ℕ) → Type 0) → Type 0
+EachToClear g device from until z P =
+    (s : Sizes) (k : Stored) (x : List ℕ) (parts : List (List ℕ))
+    → g.is_honest device
+    → IsToClear s k x parts from until z (g.seen device)
+    → P s k x parts
 
 -- It opens as what is stored, of a store that was opened as often as one of the two roots says.
 abbrev pub OpensStill : Sizes → Stored → List ℕ → List ℕ → Content → Type 0

@@ -1,8 +1,9 @@
 -- What a store of format 1 held, in format 2.
 use Rattle.std.specs.Prelude.{◌≡◌, ◌⊎◌, ℕ, ◌+◌, ◌-◌, List, ◌++◌, length}
-use Rattle.dns_sectors.specs.Device.{Content}
+use Rattle.dns_sectors.specs.Device.{Content, Only}
 use Rattle.dns_sectors.specs.Crash.{Write}
 use Rattle.dns_sectors.specs.Phase.{pairs, zeros_from}
+use Rattle.dns_sectors.specs.declared.device.Sectors.{Ghosts}
 use Rattle.dns_sectors.specs.declared.phase.SectorWrite.{SectorWrite}
 use Rattle.dns_layout.specs.Sector.{sector_at, clear}
 use Rattle.dns_layout.specs.Forms.{SaysRootIn}
@@ -49,3 +50,21 @@ pub record OpensCleared (s : Sizes) (k : Stored) (opened : ℕ) (c : Content) : 
   pub tidy : IsTidy s c
   pub cleared : clear (sector_at c 0) ≡ 1
   pub counted : IsOpenedTimes opened c
+
+-- Of all that an honest device holds in format 1 by this root, up to that version, P: everything on it is
+-- durable.
+abbrev pub EachToConvert : {D : Type 0} → Ghosts D → D → Root → ℕ → List Change → (Sizes → Stored → Type 0)
+    → Type 0
+EachToConvert g device root base changes P =
+    (s : Sizes) (k : Stored) (x : List ℕ) (parts : List (List ℕ))
+    → g.is_honest device → Only (g.seen device) (g.may_leave device)
+    → OpensByIn One s (g.seen device) x parts k
+    → SaysRootIn One x root
+    → base + length changes ≡ version_of k
+    → P s k
+
+-- Each crash leaves in format 2 what is stored after the turn.
+abbrev pub LeavesCleared : {D : Type 0} → Ghosts D → D → Sizes → Stored → List ℕ → List Change → ℕ → Type 0
+LeavesCleared g device s k octets changes opened =
+    (new : Stored) × IsTurned k octets changes new
+    × ((c : Content) → g.may_leave device c → OpensCleared s new opened c)

@@ -1,10 +1,11 @@
 //! The bank that isn't in use is cleared of what format 1 left there.
-ghost use Rattle.std.specs.Prelude.{◌≡◌, ◌≤◌, ◌<◌, ◌↔◌, ℕ, List, OnOk};
+ghost use Rattle.std.specs.Prelude.{◌≡◌, ◌≤◌, ◌<◌, ◌↔◌, ℕ, OnOk};
 ghost use Rattle.dns_sectors.specs.Device.{Only, LeavesOnly, CountsFailure};
 ghost use Rattle.dns_layout.specs.Sector.{open_count};
 ghost use Rattle.dns_layout.specs.Journal.{AllBehind};
-ghost use Rattle.dns_layout.specs.Store.{Sizes, Stored, OpensBy, IsTidy};
-ghost use Rattle.dns_journal.specs.Clearing.{IsToClear, StaysUncleared};
+ghost use Rattle.dns_layout.specs.Store.{OpensBy, IsTidy};
+ghost use Rattle.dns_journal.specs.Phases.{IfSettled};
+ghost use Rattle.dns_journal.specs.Clearing.{EachToClear, StaysUncleared};
 
 use dns_sectors::{DeviceError, Sector, SectorWrite, Sectors, write_phase, write_zeros};
 
@@ -19,16 +20,15 @@ pub fn clear_bank<D: Sectors>(
     requires within { until ≤ D.count device.old }
     requires some { 0 < D.count device.old }
     // A crash at any moment of it leaves what opens as before.
-    ensures any_moment { D.is_honest device.old → Only (D.seen device.old) (D.may_leave device.old)
-        → LeavesOnly D.moment D.left_since device.old device.new
-        (StaysUncleared from until root.now (D.seen device.old)) }
-    ensures cleared { (s : Sizes) (k : Stored) (x : List ℕ) (parts : List (List ℕ)) → D.is_honest device.old
-        → IsToClear s k x parts from until root.now (D.seen device.old)
-        → OnOk result (OpensBy s (D.seen device.new) root.now parts k × IsTidy s (D.seen device.new)) }
+    ensures any_moment { IfSettled D.Sectors device.old
+        (LeavesOnly D.moment D.left_since device.old device.new
+        (StaysUncleared from until root.now (D.seen device.old))) }
+    ensures cleared { EachToClear D.Sectors device.old from until root.now (λ s k _ parts. OnOk result
+        (OpensBy s (D.seen device.new) root.now parts k × IsTidy s (D.seen device.new))) }
     // Each head that is left has a lower open count than a root whose count was raised.
-    ensures behind { (s : Sizes) (k : Stored) (x : List ℕ) (parts : List (List ℕ)) → D.is_honest device.old
-        → IsToClear s k x parts from until root.now (D.seen device.old) → open_count x < open_count root.now
-        → OnOk result ((version : ℕ) → AllBehind (open_count root.now) version (D.seen device.new)) }
+    ensures behind { EachToClear D.Sectors device.old from until root.now (λ _ _ x _.
+        open_count x < open_count root.now
+        → OnOk result ((version : ℕ) → AllBehind (open_count root.now) version (D.seen device.new))) }
     ensures durable { D.is_honest device.old
         → OnOk result (Only (D.seen device.new) (D.may_leave device.new)) }
     ensures failed { CountsFailure result (D.failed device.old) (D.failed device.new) }

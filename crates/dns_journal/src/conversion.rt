@@ -6,12 +6,12 @@ ghost use Rattle.dns_sectors.specs.Device.{Only, LeavesOnly, CountsFailure};
 ghost use Rattle.dns_sectors.specs.Crash.{after_writes, CrashOf};
 ghost use Rattle.dns_sectors.specs.Phase.{AllWithin};
 ghost use Rattle.dns_layout.specs.Sector.{snapshot_sectors as sectors_of_snapshot};
-ghost use Rattle.dns_layout.specs.Forms.{SaysRootIn, bank_number};
-ghost use Rattle.dns_layout.specs.Store.{Sizes, Stored, OpensByIn, version_of};
-ghost use Rattle.dns_layout.specs.declared.format.Format.TheVariants.{One};
+ghost use Rattle.dns_layout.specs.Forms.{bank_number};
+ghost use Rattle.dns_journal.specs.Phases.{IfSettled};
 ghost use Rattle.dns_journal.specs.Reads.{HasRisen};
-ghost use Rattle.dns_journal.specs.Bank.{sectors_for, IsTurned};
-ghost use Rattle.dns_journal.specs.Converting.{with_zeros, bank_writes, StaysOrConverts, OpensCleared};
+ghost use Rattle.dns_journal.specs.Bank.{sectors_for};
+ghost use Rattle.dns_journal.specs.Converting.{with_zeros, bank_writes, StaysOrConverts, EachToConvert};
+ghost use Rattle.dns_journal.specs.Converting.{LeavesCleared};
 
 use crate::clear::clear_bank;
 use crate::turn::{TurnError, other_bank, write_bank};
@@ -47,14 +47,11 @@ pub fn convert<D: Sectors>(
     requires number { base + length changes.now < 2 ^ 64 }
     requires more { root.open_count < 2 ^ 64 - 1 }
     // A crash at any moment of it leaves what format 1 held, or in format 2 what is stored after the turn.
-    ensures any_moment { D.is_honest device.old → Only (D.seen device.old) (D.may_leave device.old)
-        → LeavesOnly D.moment D.left_since device.old device.new
-        (StaysOrConverts root base octets.now changes.now (D.seen device.old)) }
-    ensures converted { (s : Sizes) (k : Stored) (x : List ℕ) (parts : List (List ℕ)) → D.is_honest device.old
-        → Only (D.seen device.old) (D.may_leave device.old) → OpensByIn One s (D.seen device.old) x parts k
-        → SaysRootIn One x root → base + length changes.now ≡ version_of k
-        → OnOk result ((new : Stored) × IsTurned k octets.now changes.now new
-        × ((c : List (List ℕ)) → D.may_leave device.new c → OpensCleared s new (root.open_count + 1) c)) }
+    ensures any_moment { IfSettled D.Sectors device.old
+        (LeavesOnly D.moment D.left_since device.old device.new
+        (StaysOrConverts root base octets.now changes.now (D.seen device.old))) }
+    ensures converted { EachToConvert D.Sectors device.old root base changes.now (λ s k. OnOk result
+        (LeavesCleared D.Sectors device.new s k octets.now changes.now (root.open_count + 1))) }
     ensures durable { D.is_honest device.old
         → OnOk result (Only (D.seen device.new) (D.may_leave device.new)) }
     ensures memory { result ≡ Err TurnError.OutOfMemory → device.new ≡ device.old }

@@ -1,6 +1,6 @@
 //! A journal that is written: staged entries become durable in two phases, first their bodies and then their
 //! heads. Its entries are `stage` and `flush`.
-ghost use Rattle.std.specs.Prelude.{length, ◌≤◌, ◌+◌, ◌-◌, ◌^◌, ◌++◌, ◌∷◌, ◌≡◌};
+ghost use Rattle.std.specs.Prelude.{length, ◌≤◌, ◌+◌, ◌-◌, ◌^◌, ◌≡◌};
 ghost use Rattle.std.specs.Prelude.{◌<◌, ◌↔◌, [], ℕ, List};
 ghost use Rattle.std.specs.Prelude.{true, false, ◌*◌, IsOk, OnOk, OnErr};
 ghost use Rattle.dns_sectors.specs.Device.{Only, LeavesOnly, CountsFailure};
@@ -8,7 +8,7 @@ ghost use Rattle.dns_sectors.specs.Crash.{after_writes, CrashOf};
 ghost use Rattle.dns_sectors.specs.Phase.{pairs, AllWithin};
 ghost use Rattle.dns_layout.specs.Sector.{sector_at, head_room, entry_sectors as sectors_of_entry};
 ghost use Rattle.dns_changes.specs.Entry.{HasEntry, entry};
-ghost use Rattle.dns_journal.specs.Phases.{LeftByBatch};
+ghost use Rattle.dns_journal.specs.Phases.{IfSettled, LeftByBatch};
 ghost use Rattle.dns_journal.specs.Staging.{Stages, PushesBodies};
 
 use crate::Cursor;
@@ -76,10 +76,11 @@ pub struct Journal<D: Sectors> {
 }
 
 impl<D: Sectors> Journal<D> {
-    ghost use Rattle.dns_layout.specs.Sector.{open_count, number};
-    ghost use Rattle.dns_layout.specs.Journal.{Entry, entry_size, entry_octets, place_behind};
-    ghost use Rattle.dns_layout.specs.Store.{Sizes, Stored, with_more, bank_end, journal_place};
-    ghost use Rattle.dns_journal.specs.State.{Keeps, LeavesPart, JournalLeavesOnly, HasJournalFailed};
+    ghost use Rattle.dns_layout.specs.Sector.{open_count};
+    ghost use Rattle.dns_layout.specs.Journal.{Entry};
+    ghost use Rattle.dns_layout.specs.Store.{Sizes, Stored, with_more};
+    ghost use Rattle.dns_journal.specs.State.{Keeps, KeepsOneMore, LeavesPart, sectors_behind};
+    ghost use Rattle.dns_journal.specs.State.{JournalLeavesOnly, HasJournalFailed};
     ghost use Rattle.dns_journal.specs.State.{BeginsAt, is_closed};
     ghost use Rattle.dns_journal.specs.State.{device_of, free_sectors};
     ghost use Rattle.dns_journal.specs.State.{newest_number_of, opened_of};
@@ -127,8 +128,7 @@ impl<D: Sectors> Journal<D> {
         ensures left { result ≡ free_sectors self.now }
         ensures kept { (shape : Sizes) (k : Stored) (staged : List Entry) → Keeps shape self.now k staged
             → (root : List ℕ) × (sector_at (D.seen (device_of self.now)) 0 ≡ root)
-            × (result ≡ bank_end shape (number root) - place_behind
-            (place_behind (journal_place shape (number root)) k.entries) staged) }
+            × (result ≡ sectors_behind shape root k staged) }
     {
         self.next.until - self.next.at
     }
@@ -139,9 +139,7 @@ impl<D: Sectors> Journal<D> {
     pub fn stage(&mut self, prepared: &PreparedEntry) -> Result<(), StageError>
         requires { newest_number_of self.old < 2 ^ 64 - 1 }
         ensures staged { (shape : Sizes) (k : Stored) (staged : List Entry) → Keeps shape self.old k staged
-            → OnOk result ((e : Entry) × (entry_octets e ≡ entry prepared.now)
-            × (entry_size e ≡ sectors_of_entry (length (entry prepared.now)))
-            × Keeps shape self.new k (staged ++ e ∷ [])) }
+            → OnOk result (KeepsOneMore shape self.new k staged prepared.now) }
         ensures written { OnOk result (HasEntry prepared.now) }
         ensures stays { (shape : Sizes) (k : Stored) (staged : List Entry) → Keeps shape self.old k staged
             → OnErr result (Keeps shape self.new k staged) }
@@ -326,8 +324,8 @@ fn write_some<D: Sectors>(device: &mut D, writes: &[SectorWrite]) -> Result<(), 
     ensures idle { writes.now ≡ [] → (device.new ≡ device.old) × IsOk result }
     ensures written { D.is_honest device.old
         → OnOk result (D.seen device.new ≡ after_writes (pairs writes.now) (D.seen device.old)) }
-    ensures durable { D.is_honest device.old → Only (D.seen device.old) (D.may_leave device.old)
-        → OnOk result (Only (D.seen device.new) (D.may_leave device.new)) }
+    ensures durable { IfSettled D.Sectors device.old
+        (OnOk result (Only (D.seen device.new) (D.may_leave device.new))) }
     ensures any_moment { D.is_honest device.old → LeavesOnly D.moment D.left_since device.old device.new
         (CrashOf (D.may_leave device.old) (pairs writes.now)) }
     ensures failed { CountsFailure result (D.failed device.old) (D.failed device.new) }
@@ -351,11 +349,11 @@ fn write_batch<D: Sectors>(
     ensures idle { bodies.now ≡ [] → heads.now ≡ [] → (device.new ≡ device.old) × IsOk result }
     ensures written { D.is_honest device.old → OnOk result (D.seen device.new
         ≡ after_writes (pairs heads.now) (after_writes (pairs bodies.now) (D.seen device.old))) }
-    ensures durable { D.is_honest device.old → Only (D.seen device.old) (D.may_leave device.old)
-        → OnOk result (Only (D.seen device.new) (D.may_leave device.new)) }
-    ensures any_moment { D.is_honest device.old → Only (D.seen device.old) (D.may_leave device.old)
-        → LeavesOnly D.moment D.left_since device.old device.new
-        (LeftByBatch (pairs bodies.now) (pairs heads.now) (D.seen device.old)) }
+    ensures durable { IfSettled D.Sectors device.old
+        (OnOk result (Only (D.seen device.new) (D.may_leave device.new))) }
+    ensures any_moment { IfSettled D.Sectors device.old
+        (LeavesOnly D.moment D.left_since device.old device.new
+        (LeftByBatch (pairs bodies.now) (pairs heads.now) (D.seen device.old))) }
     ensures failed { CountsFailure result (D.failed device.old) (D.failed device.new) }
     ensures honest { D.is_honest device.new ↔ D.is_honest device.old }
     ensures count { D.count device.new ≡ D.count device.old }

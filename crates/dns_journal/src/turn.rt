@@ -1,20 +1,19 @@
 //! A bank that is written whole: the parts of a snapshot and the entries after them are written and made
 //! durable, and then the root is turned to it.
-ghost use Rattle.std.specs.Prelude.{◌≡◌, ◌≢◌, ◌⊎◌, ◌≤◌, ◌<◌, ◌↔◌, ◌+◌, ◌-◌, ◌*◌, ◌^◌, [], true, ℕ, List};
+ghost use Rattle.std.specs.Prelude.{◌≡◌, ◌≢◌, ◌⊎◌, ◌≤◌, ◌<◌, ◌↔◌, ◌+◌, ◌-◌, ◌*◌, ◌^◌, [], true, ℕ};
 ghost use Rattle.std.specs.Prelude.{length};
 ghost use Rattle.std.specs.Prelude.{IfOk, OnOk, OnErr, sum_by};
 ghost use Rattle.dns_sectors.specs.Device.{Only, LeavesOnly, CountsFailure};
 ghost use Rattle.dns_sectors.specs.Phase.{pairs, AllWithin};
 ghost use Rattle.dns_layout.specs.Sector.{entry_sectors as sectors_of_entry};
 ghost use Rattle.dns_layout.specs.Sector.{snapshot_sectors as sectors_of_snapshot};
-ghost use Rattle.dns_layout.specs.Sector.{blank, payload_room, open_count, bank_open};
+ghost use Rattle.dns_layout.specs.Sector.{blank, payload_room, open_count};
 ghost use Rattle.dns_layout.specs.Forms.{SaysPart, bank_number};
 ghost use Rattle.dns_layout.specs.Own.{Own};
-ghost use Rattle.dns_layout.specs.Journal.{AllBehind};
-ghost use Rattle.dns_layout.specs.Store.{Sizes, Stored, OpensBy, version_of, other_of};
+ghost use Rattle.dns_layout.specs.Store.{Sizes, Stored, other_of};
 ghost use Rattle.dns_journal.specs.Bank.{part_of, piece, HoldsOctets, sectors_for, PushesParts, PushesEntry};
 ghost use Rattle.dns_journal.specs.Bank.{PushesEntries};
-ghost use Rattle.dns_journal.specs.Bank.{LaysBank, Turns, IsTurnedTo};
+ghost use Rattle.dns_journal.specs.Bank.{LaysBank, EachTurn, IsTurnedTo, sizes_said};
 ghost use Rattle.dns_journal.specs.State.{OpensAsOneOf};
 
 use crate::journal::push_bodies;
@@ -234,9 +233,8 @@ pub(crate) fn write_bank(
     requires small { 1 + 2 * (root.now.snapshot_room + root.now.journal_room) ≤ 2 ^ 20 }
     requires number { base + length changes.now < 2 ^ 64 }
     ensures laid { IfOk result (λ r. LaysBank
-        (record { snapshot = root.now.snapshot_room; journal = root.now.journal_room; apex = root.now.apex })
-        (other_of (bank_number root.now.bank)) root.now.open_count base octets.now changes.now
-        (pairs r.0.items) r.1) }
+        (sizes_said root.now) (other_of (bank_number root.now.bank)) root.now.open_count base octets.now
+        changes.now (pairs r.0.items) r.1) }
     ensures within { IfOk result
         (λ r. AllWithin (1 + 2 * (root.now.snapshot_room + root.now.journal_room)) r.0.items) }
     ensures next { IfOk result (λ r. (r.1.at ≤ r.1.until)
@@ -276,18 +274,10 @@ pub(crate) fn turn_to<D: Sectors>(
 ) -> Result<(), DeviceError>
     requires within { AllWithin (D.count device.old) writes.now }
     requires some { 0 < D.count device.old }
-    ensures any_moment { (s : Sizes) (k new : Stored) (x : List ℕ) (parts : List (List ℕ))
-        → D.is_honest device.old → Only (D.seen device.old) (D.may_leave device.old)
-        → OpensBy s (D.seen device.old) x parts k → bank_open x ≤ open_count x
-        → AllBehind (open_count x) (version_of k) (D.seen device.old)
-        → Turns s k new x root.now (pairs writes.now)
-        → LeavesOnly D.moment D.left_since device.old device.new (OpensAsOneOf s k new (open_count x)) }
-    ensures turned { (s : Sizes) (k new : Stored) (x : List ℕ) (parts : List (List ℕ))
-        → D.is_honest device.old → Only (D.seen device.old) (D.may_leave device.old)
-        → OpensBy s (D.seen device.old) x parts k → bank_open x ≤ open_count x
-        → AllBehind (open_count x) (version_of k) (D.seen device.old)
-        → Turns s k new x root.now (pairs writes.now)
-        → OnOk result (IsTurnedTo s new root.now (open_count x) (D.seen device.new)) }
+    ensures any_moment { EachTurn D.Sectors device.old root.now (pairs writes.now) (λ s k new x.
+        LeavesOnly D.moment D.left_since device.old device.new (OpensAsOneOf s k new (open_count x))) }
+    ensures turned { EachTurn D.Sectors device.old root.now (pairs writes.now) (λ s _ new x.
+        OnOk result (IsTurnedTo s new root.now (open_count x) (D.seen device.new))) }
     ensures durable { D.is_honest device.old
         → OnOk result (Only (D.seen device.new) (D.may_leave device.new)) }
     ensures failed { CountsFailure result (D.failed device.old) (D.failed device.new) }
