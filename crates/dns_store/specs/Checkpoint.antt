@@ -1,7 +1,7 @@
 -- What a checkpoint makes of a store: a later base, and the newest changes alone.
 use Rattle.std.specs.Prelude.{◌≡◌, ◌≤◌, ◌-◌, ℕ, List, [], ◌∷◌, length, drop, sum_by}
 use Rattle.std.specs.List.{flat_map}
-use Rattle.dns_records.specs.Record.{plain}
+use Rattle.dns_records.specs.Record.{Record, plain}
 use Rattle.dns_names.specs.Name.{Labels}
 use Rattle.dns_zone.specs.Zone.{Zone, IsZone}
 use Rattle.dns_changes.specs.Change.{Change}
@@ -55,6 +55,18 @@ pub record IsBaseLent {D : Type 0} {g : Ghosts D} (journal : Journal D g) (base 
 abbrev pub AllZones : Labels → Versions → Type 0
 AllZones apex [] = Unit {0}
 AllZones apex (v ∷ vs) = IsZone (record { apex = apex; records = v }) × AllZones apex vs
+
+-- Of the valid zones that these changes lead to from the first records, P.
+abbrev pub EachLed : Labels → List Record → List Change → (Versions → Type 0) → Type 0
+EachLed apex first changes P = (vs : Versions) → AreLed first vs changes → AllZones apex vs → P vs
+
+-- Of all that the journal keeps, with nothing staged, and the base with these octets as its snapshot, from
+-- which these changes lead to the durable version, P.
+abbrev pub EachNewBase : {D : Type 0} {g : Ghosts D} → Journal D g → List ℕ → List Change
+    → (Kept → ℕ → Type 0) → Type 0
+EachNewBase journal octets changes P =
+    (k : Kept) (base : ℕ) → keeps_versions journal k → k.staged ≡ [] → IsBaseOf k base octets changes
+    → P k base
 
 -- The new base with its snapshot.
 pub record IsNextBase (base next : Zone) (vs : Versions) (octets : List ℕ) : Type 0 where

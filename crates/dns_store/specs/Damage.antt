@@ -43,6 +43,10 @@ NamesSpoiltIn f d from until OutOfMemory = ⊥
 abbrev pub RefusesSpoilt : Format → Content → ℕ → ℕ → OpenError → Type 0
 RefusesSpoilt f d from until e = (e ≡ Device) ⊎ (e ≡ OutOfMemory) ⊎ NamesSpoiltIn f d from until e
 
+-- So it is of what a cursor reads.
+abbrev pub RefusesJournal : Format → Content → Cursor → OpenError → Type 0
+RefusesJournal f d cursor e = RefusesSpoilt f d cursor.at cursor.until e
+
 -- The sector is neither zeros nor its own, and isn't the one that was there before.
 pub record IsAlteredAt (f : Format) (before now : Content) (position : ℕ) : Type 0 where
   pub spoilt : IsIntactIn f position (sector_at now position) → ⊥
@@ -83,16 +87,23 @@ AreStepsIn f apex room c from base [] at newest = (at ≡ from) × (newest ≡ b
 AreStepsIn f apex room c from base (s ∷ steps) at newest =
     IsStepAtIn f apex room c from base s × AreStepsIn f apex room c s.behind s.after steps at newest
 
+-- Where the records are a valid zone whose snapshot takes at most so many sectors, P.
+abbrev pub IfFits : Format → Labels → ℕ → List Record → Type 0 → Type 0
+IfFits f apex room after P =
+    IsZone (record { apex = apex; records = after }) → sectors_of_snapshot_in f after ≤ room → P
+
+-- Of each change whose entry the octets are, to such records, P.
+abbrev pub EachStep : Format → Labels → ℕ → List Record → List ℕ → (List Record → Change → Type 0) → Type 0
+EachStep f apex room before octets P =
+    (after : List Record) (c : Change)
+    → IsChange before after c
+    → HasEntry c
+    → entry c ≡ octets
+    → IfFits f apex room after (P after c)
+
 -- The octets are the entry of no change to a valid zone that takes at most so many sectors.
 abbrev pub IsNoStepIn : Format → Labels → ℕ → List Record → List ℕ → Type 0
-IsNoStepIn f apex room before octets =
-    (after : List Record) (d : Change)
-    → IsChange before after d
-    → HasEntry d
-    → entry d ≡ octets
-    → IsZone (record { apex = apex; records = after })
-    → sectors_of_snapshot_in f after ≤ room
-    → ⊥
+IsNoStepIn f apex room before octets = EachStep f apex room before octets (λ _ _. ⊥)
 
 -- The head at the cursor is named: its entry is that of no change to such a zone.
 pub record IsNoStepAtIn (f : Format) (apex : Labels) (room : ℕ) (c : Content) (at : Cursor)

@@ -32,7 +32,8 @@ pub record IsLaid (octets : List ℕ) (index : ℕ) (x : List ℕ) : Type 0 wher
 
 -- ... at each index after the root, up to that position
 abbrev pub IsLaidTo : List ℕ → ℕ → Content → Type 0
-IsLaidTo octets position c = (index : ℕ) → index + 1 < position → IsLaid octets index (sector_at c (index + 1))
+IsLaidTo octets position c =
+    (index : ℕ) → index + 1 < position → IsLaid octets index (sector_at c (index + 1))
 
 -- The first sector is as if it was never written.
 abbrev pub HasBlankRoot : Content → Type 0

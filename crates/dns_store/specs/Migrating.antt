@@ -1,5 +1,6 @@
 -- What migrating makes of a store of format 1, and what a stop at any moment of it leaves.
-use Rattle.std.specs.Prelude.{◌≡◌, ◌⊎◌, ◌≤◌, ◌+◌, ◌^◌, ℕ, List, [], ◌∷◌, length, drop, Result, Ok, Err}
+use Rattle.std.specs.Prelude.{◌≡◌, ◌⊎◌, ◌≤◌, ◌<◌, ◌+◌, ◌^◌, ℕ, List, [], ◌∷◌, length, drop, Result, Ok, Err}
+use Rattle.std.specs.Prelude.{MatchResult}
 use Rattle.dns_records.specs.Record.{Record, serial_of}
 use Rattle.dns_zone.specs.Zone.{Zone, soas}
 use Rattle.dns_changes.specs.Change.{Change}
@@ -23,6 +24,8 @@ use Rattle.dns_store.specs.declared.migrating.MigrateError.{MigrateError}
 use Rattle.dns_store.specs.declared.migrating.MigrateError.TheVariants.{Device, Blank, Damaged, Geometry}
 use Rattle.dns_store.specs.declared.migrating.MigrateError.TheVariants.{ZoneTooLarge, OutOfMemory}
 use Rattle.dns_store.specs.Versions.{Shape, Opened, newest_after}
+use Rattle.dns_store.specs.Plain.{sectors_of_snapshot}
+use Rattle.dns_store.specs.Opening.{IsInRange}
 use Rattle.dns_store.specs.Choosing.{IsChosen}
 use Rattle.dns_store.specs.Recovered.{AreLed}
 use Rattle.dns_store.specs.Opens.{IsPartOfIn, base_of, opens, sizes_of}
@@ -76,12 +79,34 @@ pub record IsReadOld (shape : Shape) (o : Opened) (s : Stored) (c : Content) (ro
   pub base_is : base ≡ record { apex = shape.apex; records = base_of o }
   pub led : AreLed (base_of o) (drop o.base o.versions) changes
 
+-- Of each store of format 1 that was read so, P.
+abbrev pub EachReadOld : Content → Root → ℕ → Zone → List Change → (Shape → Opened → Type 0) → Type 0
+EachReadOld c root version base changes P =
+    (shape : Shape) (o : Opened) (s : Stored)
+    → IsReadOld shape o s c root version base changes
+    → P shape o
+
+-- Each crash leaves it as it is migrated.
+abbrev pub LeavesMigrated : {D : Type 0} → Ghosts D → D → Shape → Opened → Type 0
+LeavesMigrated g device shape o =
+    (after : Opened) → IsMigrated shape o after → (c : Content) → g.may_leave device c → opens shape after c
+
+-- The newest version takes more sectors of format 2 than a snapshot has.
+abbrev pub IsTooLarge : ℕ → Opened → Type 0
+IsTooLarge snapshot o = snapshot < sectors_of_snapshot (newest_after o.loaded o.versions)
+
+-- Of what an honest device holds in format 1 as a store of this shape, P.
+abbrev pub EachOld : {D : Type 0} → Ghosts D → Shape → D → (Opened → Type 0) → Type 0
+EachOld g shape device P =
+    g.is_honest device → (o : Opened) → old_opens shape o (g.seen device)
+    → IsInRange shape.snapshot shape.journal
+    → P o
+
 -- What was read so is held still in format 1, or as it is migrated.
 abbrev pub StaysOrMigrates : Root → ℕ → Zone → List Change → Content → Content → Type 0
 StaysOrMigrates root version base changes old new =
-    (shape : Shape) (o : Opened) (s : Stored)
-    → IsReadOld shape o s old root version base changes
-    → old_opens shape o new ⊎ ((after : Opened) → IsMigrated shape o after → opens shape after new)
+    EachReadOld old root version base changes
+    (λ shape o. old_opens shape o new ⊎ ((after : Opened) → IsMigrated shape o after → opens shape after new))
 
 -- the serial of the one SOA among these records
 pub record IsSerialOf (records : List Record) (serial : ℕ) : Type 0 where
@@ -113,6 +138,12 @@ abbrev pub StopsMigrating : {D : Type 0} → Ghosts D → Shape → D → Migrat
 StopsMigrating g shape device e =
     (d : Content) × g.may_leave device d
     × ((o : Opened) → opens_migrated shape o d → IsMigrateStopped o.openings e)
+
+-- Where each crash leaves a store with room in format 2, it is migrated; or why it isn't.
+abbrev pub MigratesPossible : {D : Type 0} → Ghosts D → Shape → D → D → Result Migration MigrateError → Type 0
+MigratesPossible g shape before after result =
+    MayMigrate g shape before
+    → MatchResult result (TakesMigrated g shape before after) (StopsMigrating g shape before)
 
 -- A refusal of reading, as one of migrating.
 abbrev pub migrate_error : OpenError → MigrateError

@@ -1,27 +1,30 @@
 -- What opening a store finds, and what it leaves of the device.
-use Rattle.std.specs.Prelude.{◌≡◌, ◌⊎◌, ◌≤◌, ◌-◌, ◌^◌, ℕ, List, drop, length}
-use Rattle.dns_names.specs.Name.{Labels}
+use Rattle.std.specs.Prelude.{◌≡◌, ◌⊎◌, ◌≤◌, ◌<◌, ◌+◌, ◌-◌, ◌*◌, ◌^◌, ℕ, List, drop, length}
+use Rattle.std.specs.Prelude.{Result, MatchResult}
 use Rattle.dns_records.specs.Record.{Record}
 use Rattle.dns_changes.specs.Change.{Change}
-use Rattle.dns_sectors.specs.Device.{Content, Only}
+use Rattle.dns_sectors.specs.Device.{Content, Only, LeavesOnly}
 use Rattle.dns_layout.specs.Sector.{sector_at, number, open_count, bank_open}
 use Rattle.dns_layout.specs.Forms.{SaysRoot, SaysRootIn}
+use Rattle.dns_layout.specs.Own.{IsIntactIn, IsAltered}
 use Rattle.dns_layout.specs.Journal.{AllBehind, place_behind}
 use Rattle.dns_layout.specs.Store.{Sizes, Stored, OpensBy, IsRootIn, all_sectors, journal_place, bank_end}
-use Rattle.dns_layout.specs.Store.{version_of}
+use Rattle.dns_layout.specs.Store.{OpensAsIn, version_of}
 use Rattle.dns_layout.specs.declared.format.Format.{Format}
 use Rattle.dns_layout.specs.declared.format.Format.TheVariants.{Two}
 use Rattle.dns_layout.specs.declared.root.Root.{Root}
 use Rattle.dns_journal.specs.declared.read.Cursor.{Cursor}
 use Rattle.dns_store.specs.declared.root.OpenError.{OpenError}
 use Rattle.dns_store.specs.declared.root.OpenError.TheVariants.{Device, Damaged, OutOfMemory}
-use Rattle.dns_store.specs.Versions.{Shape, Kept, Opened, shape_given, newest_after, opened_again}
+use Rattle.dns_store.specs.Versions.{Shape, Kept, Opened, newest_after, opened_again}
 use Rattle.dns_sectors.specs.declared.device.Sectors.{Ghosts}
 use Rattle.dns_journal.specs.State.{device_of, newest_number_of}
 use Rattle.dns_zone.specs.Zone.{Zone}
 use Rattle.dns_store.specs.declared.kept_store.KeptStore.{KeptStore}
-use Rattle.dns_store.specs.Opens.{IsPartOf, base_of, fresh, opens, sizes_of}
-use Rattle.dns_store.specs.Damage.{NamesAlteredIn}
+use Rattle.dns_store.specs.declared.recovery.Recovered.{Recovered}
+use Rattle.dns_store.specs.Opens.{IsPartOf, IsPartOfIn, base_of, fresh, opens, sizes_of}
+use Rattle.dns_store.specs.Damage.{NamesAlteredIn, NamesAltered, IsReachedIn}
+use Rattle.dns_store.specs.Checkpoint.{IsBaseLent}
 use Rattle.dns_store.specs.Holding.{HoldsVersions}
 use Rattle.dns_store.specs.Recovered.{AreLed}
 
@@ -50,20 +53,48 @@ abbrev pub IsRead : Sizes → Content → Opened → Stored → Root → Cursor 
     → List Record → Type 0
 IsRead sizes c o s root end base changes newest = IsReadIn Two sizes c o s root end base changes newest
 
+-- All that was recovered is what is stored.
+abbrev pub IsRecovered : {I : Type 0} → Format → Shape → Content → Opened → Stored → Recovered I → Type 0
+IsRecovered f shape c o s r =
+    IsReadIn f (sizes_of shape) c o s r.root r.end r.base.records r.changes.items r.newest.records
+
+-- What was recovered is of a device of so many sectors, which all are of its two banks but for the first: the
+-- next entry goes there, and the root can be raised.
+abbrev pub HasPlace : {I : Type 0} → ℕ → Recovered I → Type 0
+HasPlace count r =
+    (r.end.until ≤ count) × (r.end.at ≤ r.end.until) × (r.end.until ≤ 2 ^ 20)
+    × (r.root.open_count < 2 ^ 64 - 1) × (0 < count)
+    × (1 + 2 * (r.root.snapshot_room + r.root.journal_room) ≡ count) × (count ≤ 2 ^ 20)
+
+-- Of each sector of an honest device that is reached by reading a store of this shape, and that is neither
+-- zeros nor its own, P.
+abbrev pub EachSpoilt : {D : Type 0} → Ghosts D → Format → Shape → D → (ℕ → Type 0) → Type 0
+EachSpoilt g f shape device P =
+    g.is_honest device → IsInRange shape.snapshot shape.journal
+    → (position : ℕ) → IsReachedIn f shape (g.seen device) position
+    → (IsIntactIn f position (sector_at (g.seen device) position) → ⊥)
+    → P position
+
 -- Why a store that was opened so often is not opened again: the device failed, memory was refused, or it was
 -- opened too often.
 abbrev pub IsNotReopened : ℕ → OpenError → Type 0
 IsNotReopened openings e = (e ≡ Device) ⊎ (e ≡ OutOfMemory) ⊎ ((e ≡ Damaged 0) × (2 ^ 64 - 1 ≤ openings))
-
--- The sizes of a store of the zone with this apex.
-abbrev pub sizes_given : Labels → ℕ → ℕ → Sizes
-sizes_given apex snapshot journal = sizes_of (shape_given apex snapshot journal)
 
 -- Why a device of which this content was altered is refused: as one that isn't opened again is, or by the
 -- name of a sector that was altered.
 abbrev pub RefusesAltered : Format → Content → Content → OpenError → Type 0
 RefusesAltered f before now e =
     IsNotReopened (open_count (sector_at before 0)) e ⊎ NamesAlteredIn f before now e
+
+-- Of each store of this shape on a content of which an honest device's is an altered one: all of it is read;
+-- or why it isn't.
+abbrev pub ReadsAltered : {D I : Type 0} → Ghosts D → Format → Shape → D → Result (Recovered I) OpenError
+    → Type 0
+ReadsAltered g f shape device result =
+    g.is_honest device → IsInRange shape.snapshot shape.journal
+    → (c : Content) → IsAltered f c (g.seen device)
+    → (o : Opened) (s : Stored) → OpensAsIn f (sizes_of shape) c s → IsPartOfIn f shape o s
+    → MatchResult result (IsRecovered f shape c o s) (RefusesAltered f c (g.seen device))
 
 -- Each crash leaves a store that opens.
 abbrev pub MayOpen : {D : Type 0} → Ghosts D → Shape → D → Type 0
@@ -84,6 +115,21 @@ StopsPossible g shape device e =
 
 abbrev pub store_device : {D I : Type 0} {g : Ghosts D} → KeptStore D I g → D
 store_device store = device_of store.journal
+
+-- A crash at any moment since then leaves what has P.
+abbrev pub StoreLeavesOnly : {D I : Type 0} {g : Ghosts D} → KeptStore D I g → KeptStore D I g
+    → (Content → Type 0) → Type 0
+StoreLeavesOnly {D} {I} {g} old new P =
+    LeavesOnly g.moment g.left_since (store_device old) (store_device new) P
+
+-- The device has P, whether its store was opened or it is given back.
+abbrev pub OnDevice : {D I : Type 0} {g : Ghosts D} → Result (KeptStore D I g × Zone) (D × OpenError)
+    → (D → Type 0) → Type 0
+OnDevice result P = MatchResult result (λ r. P (store_device r.0)) (λ e. P e.0)
+
+-- The store keeps these versions, with nothing staged.
+abbrev pub IsLent : {D I : Type 0} {g : Ghosts D} → KeptStore D I g → Kept → Type 0
+IsLent store k = IsBaseLent store.journal store.base store.changes.items k
 
 -- The store keeps these versions.
 abbrev pub keeps : {D I : Type 0} {g : Ghosts D} → KeptStore D I g → Kept → Type 0
@@ -130,3 +176,19 @@ pub record AnswersAs {D I : Type 0} {g : Ghosts D} (shape : Shape) (o : Opened) 
   pub number_is : newest_number_of store.journal ≡ length o.versions
   pub base_is : store.base ≡ record { apex = shape.apex; records = base_of o }
   pub led : AreLed (base_of o) (drop o.base o.versions) store.changes.items
+
+-- Where each crash leaves a store that opens, one of them is taken; or why it isn't opened.
+abbrev pub OpensPossible : {D I : Type 0} {g : Ghosts D} → Shape → D
+    → Result (KeptStore D I g × Zone) (D × OpenError) → Type 0
+OpensPossible {D} {I} {g} shape device result =
+    MayOpen g shape device
+    → MatchResult result (λ r. TakesPossible shape device r.0 r.1) (λ e. StopsPossible g shape device e.1)
+
+-- Where the device's content is an altered one of what opens as these versions: the answer is that for them;
+-- or why that isn't opened again; or a sector that was altered is named.
+abbrev pub AnswersAltered : {D I : Type 0} {g : Ghosts D} → Shape → D
+    → Result (KeptStore D I g × Zone) (D × OpenError) → Type 0
+AnswersAltered {D} {I} {g} shape device result =
+    (c : Content) (o : Opened) → opens shape o c → IsAltered Two c (g.seen device)
+    → MatchResult result (λ r. AnswersAs shape o r.0 r.1)
+    (λ e. IsNotReopened o.openings e.1 ⊎ NamesAltered c (g.seen device) e.1)

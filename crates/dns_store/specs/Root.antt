@@ -14,6 +14,10 @@ use Rattle.dns_journal.specs.declared.read.ReadError.{ReadError}
 use Rattle.dns_store.specs.declared.root.OpenError.{OpenError}
 use Rattle.dns_store.specs.declared.root.OpenError.TheVariants.{Device, Blank, Damaged, Geometry, OutOfMemory}
 
+-- the sizes of a store with this apex field
+abbrev pub sizes_with : List ℕ → ℕ → ℕ → Sizes
+sizes_with apex snapshot journal = record { snapshot = snapshot; journal = journal; apex = apex }
+
 -- A root of some store, that is intact and can be opened once more.
 pub record IsSoundIn (f : Format) (x : List ℕ) : Type 0 where
   pub own : IsIntactIn f 0 x

@@ -1,20 +1,19 @@
 //! A checkpoint: the base moves to a later version, and of the changes the newest alone are kept.
-ghost use Rattle.std.specs.Prelude.{◌≡◌, ◌⊎◌, ◌≤◌, ◌<◌, ◌-◌, ◌↔◌, [], ℕ, true, false, length, drop, min};
+ghost use Rattle.std.specs.Prelude.{◌≡◌, ◌⊎◌, ◌≤◌, ◌<◌, ◌-◌, ◌↔◌, ℕ, true, false, length, drop, min};
 ghost use Rattle.std.specs.Prelude.{sum_by, IfOk};
-ghost use Rattle.std.specs.Prelude.{OnOk, OnErr, MatchResult};
+ghost use Rattle.std.specs.Prelude.{OnOk, OnErr};
 ghost use Rattle.dns_names.specs.Name.{Labels};
 ghost use Rattle.dns_zone.specs.Records.{is_ordered};
 ghost use Rattle.dns_layout.specs.Sector.{snapshot_sectors as sectors_of_octets};
-ghost use Rattle.dns_sectors.specs.Device.{LeavesOnly};
-ghost use Rattle.dns_journal.specs.State.{device_of, is_closed, newest_number_of};
+ghost use Rattle.dns_journal.specs.State.{JournalLeavesOnly, device_of, is_closed, newest_number_of};
 ghost use Rattle.dns_journal.specs.Reads.{HasRisen};
 ghost use Rattle.dns_journal.specs.Bank.{sectors_for, snapshot_room_of, journal_room_of};
-ghost use Rattle.dns_store.specs.Versions.{Versions, Kept, newest_after, OpensAsEither, moved_to};
+ghost use Rattle.dns_store.specs.Versions.{Kept, newest_after, OpensAsEither, moved_to};
 ghost use Rattle.dns_store.specs.Versions.{closed_between};
-ghost use Rattle.dns_store.specs.Recovered.{AreLed};
+ghost use Rattle.dns_store.specs.Recovered.{GivenMemory};
 ghost use Rattle.dns_store.specs.Opens.{IsClosedBy, opens, journal_keeps as keeps_versions};
 ghost use Rattle.dns_store.specs.Plain.{sectors_of_snapshot};
-ghost use Rattle.dns_store.specs.Checkpoint.{AllZones, IsBaseOf, IsMostKept, IsNextBase};
+ghost use Rattle.dns_store.specs.Checkpoint.{EachLed, EachNewBase, IsMostKept, IsNextBase};
 
 use crate::KeptStore;
 use crate::formatting::snapshot_of;
@@ -84,29 +83,22 @@ impl From<ChangeError> for CheckpointError {
 }
 
 impl<D: Sectors, I: ZoneIndex> KeptStore<D, I> {
-    ghost use Rattle.dns_store.specs.Opening.{store_device};
-    ghost use Rattle.dns_store.specs.Checkpoint.{IsKeptNumber, IsBaseLent};
-    ghost use Rattle.dns_store.specs.Holding.{HoldsVersions};
+    ghost use Rattle.dns_store.specs.Opening.{store_device, keeps, IsLent, StoreLeavesOnly};
+    ghost use Rattle.dns_store.specs.Checkpoint.{IsKeptNumber};
 
     // Writes the new base's snapshot and the entries of the changes that are kept into the bank that isn't in
     // use, and makes them durable; then turns the root to that bank. It makes all growths before the first
     // write.
     pub(crate) fn move_base(&mut self, keep: usize, room: usize) -> Result<(), CheckpointError>
         // A crash at any moment of it leaves the shown version, with the old base or the new one.
-        ensures any_moment { (k : Kept) (n : ℕ)
-            → IsBaseLent self.old.journal self.old.base self.old.changes.items k
-            → IsKeptNumber k keep room n → LeavesOnly D.moment D.left_since (store_device self.old)
-            (store_device self.new) (OpensAsEither opens k (length k.shown - n)) }
-        ensures moved { (k : Kept) (n : ℕ)
-            → IsBaseLent self.old.journal self.old.base self.old.changes.items k
-            → IsKeptNumber k keep room n
-            → OnOk result (IsBaseLent self.new.journal self.new.base self.new.changes.items
-            (moved_to (length k.shown - n) k)) }
-        ensures failed { (k : Kept) (n : ℕ)
-            → IsBaseLent self.old.journal self.old.base self.old.changes.items k
-            → IsKeptNumber k keep room n → result ≡ Err CheckpointError.Device
+        ensures any_moment { (k : Kept) (n : ℕ) → IsLent self.old k → IsKeptNumber k keep room n
+            → StoreLeavesOnly self.old self.new (OpensAsEither opens k (length k.shown - n)) }
+        ensures moved { (k : Kept) (n : ℕ) → IsLent self.old k → IsKeptNumber k keep room n
+            → OnOk result (IsLent self.new (moved_to (length k.shown - n) k)) }
+        ensures failed { (k : Kept) (n : ℕ) → IsLent self.old k → IsKeptNumber k keep room n
+            → result ≡ Err CheckpointError.Device
             → (k.closed ≡ false) × IsClosedBy self.new.journal (closed_between (length k.shown - n) k) }
-        ensures closed { (k : Kept) → HoldsVersions self.old.journal self.old.base self.old.changes.items k
+        ensures closed { (k : Kept) → keeps self.old k
             → result ≡ Err CheckpointError.Closed ↔ k.closed ≡ true }
         ensures device { result ≡ Err CheckpointError.Device
             → HasRisen (D.failed (store_device self.old)) (D.failed (store_device self.new)) }
@@ -155,16 +147,12 @@ fn turn_bank<D: Sectors>(
     requires room { sum_by sectors_for changes.now ≤ journal_room_of journal.old }
     requires few { length changes.now ≤ newest_number_of journal.old }
     // A crash at any moment of it leaves the durable version, with the old base or the new one.
-    ensures any_moment { (k : Kept) (base : ℕ) → keeps_versions journal.old k → k.staged ≡ []
-        → IsBaseOf k base octets.now changes.now
-        → LeavesOnly D.moment D.left_since (device_of journal.old) (device_of journal.new)
-        (OpensAsEither opens k base) }
-    ensures moved { (k : Kept) (base : ℕ) → keeps_versions journal.old k → k.staged ≡ []
-        → IsBaseOf k base octets.now changes.now
-        → OnOk result (keeps_versions journal.new (moved_to base k)) }
-    ensures failed { (k : Kept) (base : ℕ) → keeps_versions journal.old k → k.staged ≡ []
-        → IsBaseOf k base octets.now changes.now → result ≡ Err TurnError.Device
-        → (k.closed ≡ false) × IsClosedBy journal.new (closed_between base k) }
+    ensures any_moment { EachNewBase journal.old octets.now changes.now (λ k base.
+        JournalLeavesOnly journal.old journal.new (OpensAsEither opens k base)) }
+    ensures moved { EachNewBase journal.old octets.now changes.now (λ k base.
+        OnOk result (keeps_versions journal.new (moved_to base k))) }
+    ensures failed { EachNewBase journal.old octets.now changes.now (λ k base. result ≡ Err TurnError.Device
+        → (k.closed ≡ false) × IsClosedBy journal.new (closed_between base k)) }
     ensures device { result ≡ Err TurnError.Device
         → HasRisen (D.failed (device_of journal.old)) (D.failed (device_of journal.new)) }
     ensures grows { D.failed (device_of journal.old) ≤ D.failed (device_of journal.new) }
@@ -208,11 +196,9 @@ pub(crate) fn most_kept(changes: &[Change], keep: usize, room: usize) -> usize
 
 // Makes these changes of a set, one after the other.
 fn apply_all<I: ZoneIndex>(set: &mut I, changes: &[Change]) -> Result<(), ChangeError>
-    ensures applied { (apex : Labels) (vs : Versions) → AreLed (I.records set.old) vs changes.now
-        → AllZones apex vs
-        → is_ordered (I.records set.old) ≡ true
-        → MatchResult result (λ _. I.records set.new ≡ newest_after (I.records set.old) vs)
-        (λ e. e ≡ ChangeError.OutOfMemory) }
+    ensures applied { (apex : Labels) → EachLed apex (I.records set.old) changes.now (λ vs.
+        is_ordered (I.records set.old) ≡ true
+        → GivenMemory result (λ _. I.records set.new ≡ newest_after (I.records set.old) vs)) }
 {
     for change in changes {
         change.apply(set)?;
@@ -222,9 +208,8 @@ fn apply_all<I: ZoneIndex>(set: &mut I, changes: &[Change]) -> Result<(), Change
 
 // The version that these changes lead to from a base; `BadBytes` where it is no zone.
 fn version_after<I: ZoneIndex>(base: &Zone<I>, changes: &[Change]) -> Result<Zone<I>, ChangeError>
-    ensures found { (vs : Versions) → AreLed base.now.records vs changes.now → AllZones base.now.apex vs
-        → MatchResult result (λ z. (z.apex ≡ base.now.apex) × (z.records ≡ newest_after base.now.records vs))
-        (λ e. e ≡ ChangeError.OutOfMemory) }
+    ensures found { EachLed base.now.apex base.now.records changes.now (λ vs. GivenMemory result
+        (λ z. (z.apex ≡ base.now.apex) × (z.records ≡ newest_after base.now.records vs))) }
 {
     let apex = base.apex().clone()?;
     let mut set = base.index().fork()?;
@@ -243,9 +228,9 @@ pub(crate) fn next_base<I: ZoneIndex>(
     changes: &[Change],
     room: u32,
 ) -> Result<(Zone<I>, Vec<u8, Heap>), ChangeError>
-    ensures found { (vs : Versions) → AreLed base.now.records vs changes.now → AllZones base.now.apex vs
-        → sectors_of_snapshot (newest_after base.now.records vs) ≤ room
-        → MatchResult result (λ r. IsNextBase base.now r.0 vs r.1.items) (λ e. e ≡ ChangeError.OutOfMemory) }
+    ensures found { EachLed base.now.apex base.now.records changes.now (λ vs.
+        sectors_of_snapshot (newest_after base.now.records vs) ≤ room
+        → GivenMemory result (λ r. IsNextBase base.now r.0 vs r.1.items)) }
     ensures fits { IfOk result (λ r. sectors_of_octets (length r.1.items) ≤ room) }
 {
     let next = version_after(base, changes)?;

@@ -2,11 +2,10 @@
 //! from a version on from which each fits in a snapshot.
 ghost use Rattle.std.specs.Prelude.{◌≡◌, ◌<◌, ◌≤◌, ◌+◌, ◌^◌, MatchOption, IfSome, length};
 ghost use Rattle.dns_layout.specs.Sector.{snapshot_sectors as sectors_of_octets};
-ghost use Rattle.dns_store.specs.Versions.{Versions, newest_after};
-ghost use Rattle.dns_store.specs.Recovered.{AreLed};
+ghost use Rattle.dns_store.specs.Versions.{newest_after};
 ghost use Rattle.dns_journal.specs.Bank.{sectors_for};
 ghost use Rattle.dns_store.specs.Plain.{sectors_of_snapshot};
-ghost use Rattle.dns_store.specs.Checkpoint.{AllZones, newest_sectors};
+ghost use Rattle.dns_store.specs.Checkpoint.{EachLed, newest_sectors};
 ghost use Rattle.dns_store.specs.Choosing.{IsChosen, IsFirstFitting};
 
 use crate::checkpoint::most_kept;
@@ -23,9 +22,9 @@ pub(crate) fn chosen<I: ZoneIndex>(
     snapshot: u32,
     journal: u32,
 ) -> Option<usize>
-    ensures chosen { (vs : Versions) → AreLed base.now.records vs changes.now → AllZones base.now.apex vs
-        → MatchOption result (snapshot < sectors_of_snapshot (newest_after base.now.records vs))
-        (IsChosen snapshot journal base.now.records vs) }
+    ensures chosen { EachLed base.now.apex base.now.records changes.now (λ vs. MatchOption result
+        (snapshot < sectors_of_snapshot (newest_after base.now.records vs))
+        (IsChosen snapshot journal base.now.records vs)) }
     ensures few { IfSome result (λ n. n ≤ length changes.now) }
     ensures room { IfSome result (λ n. newest_sectors sectors_for changes.now n ≤ journal) }
 {
@@ -39,8 +38,8 @@ pub(crate) fn chosen<I: ZoneIndex>(
 // The number, from the base on, of the first version from which on each takes at most so many sectors as a
 // snapshot; one more than that of the newest where that one takes more.
 fn first_fitting<I: ZoneIndex>(base: &Zone<I>, changes: &[Change], room: usize) -> usize
-    ensures { (vs : Versions) → AreLed base.now.records vs changes.now → AllZones base.now.apex vs
-        → IsFirstFitting room base.now.records vs (length vs) result }
+    ensures { EachLed base.now.apex base.now.records changes.now (λ vs.
+        IsFirstFitting room base.now.records vs (length vs) result) }
 {
     let _valid = base.apex();
     let mut octets = snapshot_len(base);

@@ -1,18 +1,17 @@
 //! A store of format 1 is migrated to format 2.
-ghost use Rattle.std.specs.Prelude.{◌≡◌, ◌⊎◌, ◌↔◌, ◌+◌, ◌*◌, ◌<◌, ◌≤◌, ◌^◌, ◌-◌, ℕ, List, MatchResult};
+ghost use Rattle.std.specs.Prelude.{◌≡◌, ◌⊎◌, ◌↔◌, ◌+◌, ◌*◌, ◌<◌, ◌≤◌, ◌^◌, ◌-◌};
 ghost use Rattle.std.specs.Prelude.{IsTrue, IfErr, IfOk, OnOk, OnErr};
-ghost use Rattle.dns_sectors.specs.Device.{Only, LeavesOnly, CountsFailure};
+ghost use Rattle.dns_sectors.specs.Device.{LeavesOnly, CountsFailure};
 ghost use Rattle.dns_layout.specs.Sector.{sector_at, tag, root_tag};
 ghost use Rattle.dns_journal.specs.Reads.{OnlyReads, HasRisen};
 ghost use Rattle.dns_store.specs.Opening.{HasRootIn, IsInRange};
-ghost use Rattle.dns_layout.specs.Store.{Stored};
-ghost use Rattle.dns_store.specs.Versions.{Shape, Opened, newest_after, shape_given};
+ghost use Rattle.dns_journal.specs.Phases.{IfSettled};
+ghost use Rattle.dns_store.specs.Versions.{shape_given};
 ghost use Rattle.dns_layout.specs.declared.format.Format.TheVariants as formats;
-ghost use Rattle.dns_store.specs.Opens.{opens, sizes_of};
-ghost use Rattle.dns_store.specs.Plain.{sectors_of_snapshot};
-ghost use Rattle.dns_store.specs.Migrating.{MayMigrate, MigratesAsPossible, TakesMigrated, StopsMigrating};
-ghost use Rattle.dns_store.specs.Migrating.{MigrateRefusal, IsMigratedStore, IsMigrated, IsReadOld};
-ghost use Rattle.dns_store.specs.Migrating.{StaysOrMigrates, old_opens};
+ghost use Rattle.dns_store.specs.Opens.{sizes_of};
+ghost use Rattle.dns_store.specs.Migrating.{MigratesPossible, MigratesAsPossible, LeavesMigrated};
+ghost use Rattle.dns_store.specs.Migrating.{MigrateRefusal, IsMigratedStore, IsTooLarge, StaysOrMigrates};
+ghost use Rattle.dns_store.specs.Migrating.{EachOld, EachReadOld};
 
 use crate::OpenError;
 use crate::checkpoint::next_base;
@@ -143,10 +142,7 @@ pub fn migrate<D: Sectors, I: ZoneIndex>(
     // On a device of which each crash leaves a store with room in format 2, it is migrated; or the device
     // failed, memory was refused, or it was opened too often.
     ensures migrated { D.is_honest device.old → IsInRange snapshot journal
-        → MayMigrate D.Sectors (shape_given apex.now snapshot journal) device.old
-        → MatchResult result (TakesMigrated D.Sectors
-        (shape_given apex.now snapshot journal) device.old device.new)
-        (StopsMigrating D.Sectors (shape_given apex.now snapshot journal) device.old) }
+        → MigratesPossible D.Sectors (shape_given apex.now snapshot journal) device.old device.new result }
     // A crash at any moment of it leaves what migrate and then open open as a crash might have left it
     // before.
     ensures any_moment { D.is_honest device.old → IsInRange snapshot journal
@@ -161,16 +157,11 @@ pub fn migrate<D: Sectors, I: ZoneIndex>(
     // Why it is refused, on any honest device.
     ensures refused { D.is_honest device.old → IfErr result
         (MigrateRefusal (shape_given apex.now snapshot journal) (D.count device.old) (D.seen device.old)) }
-    ensures too_large { D.is_honest device.old → (o : Opened)
-        → old_opens (shape_given apex.now snapshot journal) o (D.seen device.old)
-        → IsInRange snapshot journal → result ≡ Err MigrateError.ZoneTooLarge
-        → snapshot < sectors_of_snapshot (newest_after o.loaded o.versions) }
+    ensures too_large { EachOld D.Sectors (shape_given apex.now snapshot journal) device.old (λ o.
+        result ≡ Err MigrateError.ZoneTooLarge → IsTooLarge snapshot o) }
     // Of a store whose newest version takes more sectors than a snapshot has, the device is read alone.
-    ensures no_room { D.is_honest device.old → (o : Opened)
-        → old_opens (shape_given apex.now snapshot journal) o (D.seen device.old)
-        → IsInRange snapshot journal
-        → snapshot < sectors_of_snapshot (newest_after o.loaded o.versions)
-        → (OnOk result ⊥) × OnlyReads D.Sectors device.old device.new }
+    ensures no_room { EachOld D.Sectors (shape_given apex.now snapshot journal) device.old (λ o.
+        IsTooLarge snapshot o → (OnOk result ⊥) × OnlyReads D.Sectors device.old device.new) }
     // It is migrated only if the first sector is a root of format 1 of that zone and these sizes.
     ensures root { D.is_honest device.old → IsMigratedStore result
         → HasRootIn formats.One (sizes_of (shape_given apex.now snapshot journal)) (D.count device.old)
@@ -233,22 +224,16 @@ fn write_anew<D: Sectors, I: ZoneIndex>(
     requires small { 1 + 2 * (root.snapshot_room + root.journal_room) ≤ 2 ^ 20 }
     requires whole { 1 + 2 * (root.snapshot_room + root.journal_room) ≤ D.count device.old }
     requires more { root.open_count < 2 ^ 64 - 1 }
-    ensures any_moment { D.is_honest device.old → Only (D.seen device.old) (D.may_leave device.old)
-        → LeavesOnly D.moment D.left_since device.old device.new
-        (StaysOrMigrates root version base.now changes.now (D.seen device.old)) }
-    ensures migrated { D.is_honest device.old → Only (D.seen device.old) (D.may_leave device.old)
-        → (shape : Shape) (o : Opened) (s : Stored)
-        → IsReadOld shape o s (D.seen device.old) root version base.now changes.now
-        → OnOk result ((after : Opened) → IsMigrated shape o after → (c : List (List ℕ))
-        → D.may_leave device.new c → opens shape after c) }
-    ensures too_large { (shape : Shape) (o : Opened) (s : Stored)
-        → IsReadOld shape o s (D.seen device.old) root version base.now changes.now
-        → result ≡ Err MigrateError.ZoneTooLarge → shape.snapshot < sectors_of_snapshot
-        (newest_after o.loaded o.versions) }
-    ensures no_room { (shape : Shape) (o : Opened) (s : Stored)
-        → IsReadOld shape o s (D.seen device.old) root version base.now changes.now
-        → shape.snapshot < sectors_of_snapshot (newest_after o.loaded o.versions)
-        → (OnOk result ⊥) × (device.new ≡ device.old) }
+    ensures any_moment { IfSettled D.Sectors device.old
+        (LeavesOnly D.moment D.left_since device.old device.new
+        (StaysOrMigrates root version base.now changes.now (D.seen device.old))) }
+    ensures migrated { IfSettled D.Sectors device.old
+        (EachReadOld (D.seen device.old) root version base.now changes.now
+        (λ shape o. OnOk result (LeavesMigrated D.Sectors device.new shape o))) }
+    ensures too_large { EachReadOld (D.seen device.old) root version base.now changes.now
+        (λ shape o. result ≡ Err MigrateError.ZoneTooLarge → IsTooLarge shape.snapshot o) }
+    ensures no_room { EachReadOld (D.seen device.old) root version base.now changes.now
+        (λ shape o. IsTooLarge shape.snapshot o → (OnOk result ⊥) × (device.new ≡ device.old)) }
     ensures only { IfErr result (λ e. (e ≡ MigrateError.Device) ⊎ (e ≡ MigrateError.OutOfMemory)
         ⊎ (e ≡ MigrateError.ZoneTooLarge)) }
     ensures unwritten { OnErr result ((result ≡ Err MigrateError.Device) ⊎ (device.new ≡ device.old)) }

@@ -1,11 +1,10 @@
 //! The end of opening a store: its root is written again with the open count raised, after the other bank was
 //! cleared where the root says that it isn't.
-ghost use Rattle.std.specs.Prelude.{◌≡◌, ◌≤◌, ◌<◌, ◌+◌, ◌-◌, ◌*◌, ◌^◌, ◌↔◌, true, List, ℕ, OnOk};
+ghost use Rattle.std.specs.Prelude.{◌≡◌, ◌≤◌, ◌<◌, ◌+◌, ◌-◌, ◌*◌, ◌^◌, ◌↔◌, true, OnOk};
 ghost use Rattle.dns_sectors.specs.Device.{Only, LeavesOnly, CountsFailure};
 ghost use Rattle.dns_layout.specs.Sector.{open_count};
-ghost use Rattle.dns_layout.specs.Forms.{SaysRoot};
-ghost use Rattle.dns_layout.specs.Store.{Sizes, Stored, OpensBy, IsTidy};
-ghost use Rattle.dns_store.specs.Turn.{OpensRaised, StaysStored, other_bank_of};
+ghost use Rattle.dns_journal.specs.Phases.{IfSettled};
+ghost use Rattle.dns_store.specs.Turn.{EachToRaise, OpensRaised, StaysStored, other_bank_of};
 
 use dns_journal::clear_bank;
 use dns_layout::{Bank, Root};
@@ -16,12 +15,10 @@ use dns_sectors::{DeviceError, SectorWrite, Sectors, write_phase};
 pub(crate) fn raise_root<D: Sectors>(device: &mut D, root: &mut Root) -> Result<(), DeviceError>
     requires room { 1 + 2 * (root.old.snapshot_room + root.old.journal_room) ≤ D.count device.old }
     requires more { root.old.open_count < 2 ^ 64 - 1 }
-    ensures any_moment { D.is_honest device.old → Only (D.seen device.old) (D.may_leave device.old)
-        → LeavesOnly D.moment D.left_since device.old device.new (StaysStored (D.seen device.old) root.old) }
-    ensures raised { (s : Sizes) (k : Stored) (x : List ℕ) (parts : List (List ℕ)) → D.is_honest device.old
-        → Only (D.seen device.old) (D.may_leave device.old)
-        → OpensBy s (D.seen device.old) x parts k → IsTidy s (D.seen device.old) → SaysRoot x root.old
-        → OnOk result (OpensRaised s k x parts root.new (D.seen device.new)) }
+    ensures any_moment { IfSettled D.Sectors device.old
+        (LeavesOnly D.moment D.left_since device.old device.new (StaysStored (D.seen device.old) root.old)) }
+    ensures raised { EachToRaise D.Sectors device.old root.old (λ s k x parts.
+        OnOk result (OpensRaised s k x parts root.new (D.seen device.new))) }
     ensures durable { D.is_honest device.old
         → OnOk result (Only (D.seen device.new) (D.may_leave device.new)) }
     ensures root { root.new ≡ record root.old { open_count = root.old.open_count + 1; is_clear = true } }

@@ -1,11 +1,11 @@
 //! The first sector of a device, read when a store is opened.
-ghost use Rattle.std.specs.Prelude.{◌≡◌, ◌≤◌, ◌<◌, ◌+◌, ◌-◌, ◌*◌, ◌^◌, ◌⊎◌, ◌↔◌, List, ℕ, IsTrue, IfOk};
+ghost use Rattle.std.specs.Prelude.{◌≡◌, ◌≤◌, ◌<◌, ◌+◌, ◌-◌, ◌*◌, ◌^◌, ◌⊎◌, ◌↔◌, IsTrue, IfOk};
 ghost use Rattle.std.specs.Prelude.{IfErr, OnOk, MatchResult};
 ghost use Rattle.dns_layout.specs.Apex.{apex_octets};
 ghost use Rattle.dns_layout.specs.Sector.{sector_at, snapshot_sectors_in as sectors_of_snapshot_in};
-ghost use Rattle.dns_layout.specs.Own.{IsIntactIn, IsAltered};
-ghost use Rattle.dns_journal.specs.Reads.{OnlyReads, HasRisen};
-ghost use Rattle.dns_store.specs.Root.{IsFoundRootIn, RootRefusalIn};
+ghost use Rattle.dns_layout.specs.Own.{IsIntactIn};
+ghost use Rattle.dns_journal.specs.Reads.{EachOriginal, OnlyReads, HasRisen};
+ghost use Rattle.dns_store.specs.Root.{IsFoundRootIn, RootRefusalIn, sizes_with};
 ghost use Rattle.dns_store.specs.Damage.{NamesSector, NamesSpoiltIn};
 
 use dns_journal::{ReadError, read_sector};
@@ -78,17 +78,15 @@ pub(crate) fn read_root<D: Sectors>(
     journal: u32,
 ) -> Result<Root, OpenError>
     requires { 0 < D.count device.old }
-    ensures found { D.is_honest device.old → (c : List (List ℕ)) → IsAltered format c (D.seen device.old)
-        → IfOk result (IsFoundRootIn format
-        (record { snapshot = snapshot; journal = journal; apex = apex.now }) (D.count device.old)
-        (sector_at c 0)) }
+    ensures found { EachOriginal D.Sectors format device.old (λ c. IfOk result (IsFoundRootIn format
+        (sizes_with apex.now snapshot journal) (D.count device.old) (sector_at c 0))) }
     ensures fits { IfOk result (λ root. (sectors_of_snapshot_in format root.snapshot_length ≤ snapshot)
-        × (D.count device.old ≡ 1 + 2 * (snapshot + journal)) × (root.open_count < 2 ^ 64 - 1)
-        × (root.snapshot_room ≡ snapshot) × (root.journal_room ≡ journal)) }
-    ensures refused { D.is_honest device.old → (c : List (List ℕ)) → IsAltered format c (D.seen device.old)
-        → IfErr result (λ e. (e ≡ OpenError.Device) ⊎ NamesSpoiltIn format (D.seen device.old) 0 1 e
-        ⊎ RootRefusalIn format (record { snapshot = snapshot; journal = journal; apex = apex.now })
-        (D.count device.old) (sector_at c 0) e) }
+        × (D.count device.old ≡ 1 + 2 * (snapshot + journal)) × (root.open_count < 2 ^ 64 - 1)) }
+    ensures rooms { IfOk result
+        (λ root. (root.snapshot_room ≡ snapshot) × (root.journal_room ≡ journal)) }
+    ensures refused { EachOriginal D.Sectors format device.old (λ c. IfErr result (λ e.
+        (e ≡ OpenError.Device) ⊎ NamesSpoiltIn format (D.seen device.old) 0 1 e ⊎ RootRefusalIn format
+        (sizes_with apex.now snapshot journal) (D.count device.old) (sector_at c 0) e)) }
     // Of a root that is neither zeros nor its own it says so.
     ensures not_own { D.is_honest device.old → (IsIntactIn format 0 (sector_at (D.seen device.old) 0) → ⊥)
         → MatchResult result (λ _. ⊥) (NamesSector 0) }
@@ -114,10 +112,10 @@ fn root_of(
     count: usize,
 ) -> Result<Root, OpenError>
     requires { IsIntactIn format 0 sector.now }
-    ensures found { IfOk result (IsFoundRootIn format
-        (record { snapshot = snapshot; journal = journal; apex = apex.now }) count sector.now) }
-    ensures refused { IfErr result (RootRefusalIn format
-        (record { snapshot = snapshot; journal = journal; apex = apex.now }) count sector.now) }
+    ensures found { IfOk result
+        (IsFoundRootIn format (sizes_with apex.now snapshot journal) count sector.now) }
+    ensures refused { IfErr result
+        (RootRefusalIn format (sizes_with apex.now snapshot journal) count sector.now) }
 {
     if *sector == [0; 512] {
         return Err(OpenError::Blank);

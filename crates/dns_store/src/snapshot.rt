@@ -3,13 +3,14 @@ ghost use Rattle.std.specs.Prelude.{◌≡◌, ◌⊎◌, ◌≤◌, ◌<◌, �
 ghost use Rattle.std.specs.Prelude.{IsTrue, IfOk, IfErr};
 ghost use Rattle.std.specs.Prelude.{OnOk, MatchResult};
 ghost use Rattle.std.specs.List.{flat_map};
-ghost use Rattle.dns_layout.specs.Sector.{AreZeros, sector_at, payload_in, payload_room_in};
+ghost use Rattle.dns_layout.specs.Sector.{AreZeros, payload_in, payload_room_in};
 ghost use Rattle.dns_layout.specs.Sector.{snapshot_sectors_in as sectors_of_snapshot_in};
-ghost use Rattle.dns_layout.specs.Own.{IsIntactIn, IsAltered};
 ghost use Rattle.dns_layout.specs.Forms.{SaysRootIn};
 ghost use Rattle.dns_layout.specs.Store.{IsPartIn, ArePartsIn};
-ghost use Rattle.dns_journal.specs.Reads.{OnlyReads, HasRisen, NamesSpoilt, IsThat, sectors_from};
-ghost use Rattle.dns_store.specs.Snapshot.{HoldsSnapshotIn, IsBadPartIn, IsBadSnapshotIn, IsReachedPartIn};
+ghost use Rattle.dns_journal.specs.Reads.{EachOriginal, OnlyReads, HasRisen, NamesSpoilt, IsThat};
+ghost use Rattle.dns_journal.specs.Reads.{sectors_from};
+ghost use Rattle.dns_store.specs.Snapshot.{EachSnapshot, EachSpoiltPart, HoldsSnapshotIn, IsBadPartIn};
+ghost use Rattle.dns_store.specs.Snapshot.{IsBadSnapshotIn, parts_said};
 
 use dns_journal::{ReadError, read_sector};
 use dns_layout::{Format, Root, SnapshotPart, are_zeros, payload, snapshot_sectors_in};
@@ -27,18 +28,14 @@ pub(crate) fn read_snapshot<D: Sectors>(
 ) -> Result<Vec<u8, Heap>, ReadError>
     requires within { at + sectors_of_snapshot_in format root.now.snapshot_length ≤ D.count device.old }
     requires fits { at + sectors_of_snapshot_in format root.now.snapshot_length < 2 ^ 64 }
-    ensures found { D.is_honest device.old → (c : List (List ℕ)) → IsAltered format c (D.seen device.old)
-        → (x : List ℕ) → SaysRootIn format x root.now
-        → IfOk result (λ octets. HoldsSnapshotIn format x at c octets.items) }
-    ensures damaged { D.is_honest device.old → (c : List (List ℕ)) → IsAltered format c (D.seen device.old)
-        → (x : List ℕ) → SaysRootIn format x root.now
-        → IfErr result (λ e. NamesSpoilt format (D.seen device.old) at
-        (at + sectors_of_snapshot_in format root.now.snapshot_length) e ⊎ IsBadSnapshotIn format x at c e) }
+    ensures found { EachSnapshot D.Sectors format device.old root.now (λ c x.
+        IfOk result (λ octets. HoldsSnapshotIn format x at c octets.items)) }
+    ensures damaged { EachSnapshot D.Sectors format device.old root.now (λ c x. IfErr result (λ e.
+        NamesSpoilt format (D.seen device.old) at (at + parts_said format root.now) e
+        ⊎ IsBadSnapshotIn format x at c e)) }
     // Of a part that is reached and is neither zeros nor its own it says so.
-    ensures not_own { D.is_honest device.old → (x : List ℕ) → SaysRootIn format x root.now → (index : ℕ)
-        → IsReachedPartIn format x at (D.seen device.old) index
-        → (IsIntactIn format (at + index) (sector_at (D.seen device.old) (at + index)) → ⊥)
-        → MatchResult result (λ _. ⊥) (IsThat (at + index)) }
+    ensures not_own { EachSpoiltPart D.Sectors format device.old root.now at
+        (λ position. MatchResult result (λ _. ⊥) (IsThat position)) }
     ensures device { result ≡ Err ReadError.Device → HasRisen (D.failed device.old) (D.failed device.new) }
     ensures quiet { OnOk result (D.failed device.new ≡ D.failed device.old) }
     ensures reads { OnlyReads D.Sectors device.old device.new }
@@ -64,22 +61,18 @@ fn read_parts<D: Sectors>(
 ) -> Result<(), ReadError>
     requires within { at + sectors_of_snapshot_in format root.now.snapshot_length ≤ D.count device.old }
     requires fits { at + sectors_of_snapshot_in format root.now.snapshot_length < 2 ^ 64 }
-    ensures parts { D.is_honest device.old → (c : List (List ℕ)) → IsAltered format c (D.seen device.old)
-        → (x : List ℕ) → SaysRootIn format x root.now → OnOk result (ArePartsIn format x 0
-        (sectors_from c at (sectors_of_snapshot_in format root.now.snapshot_length))) }
+    ensures parts { EachSnapshot D.Sectors format device.old root.now (λ c x. OnOk result
+        (ArePartsIn format x 0 (sectors_from c at (parts_said format root.now)))) }
     ensures size { OnOk result (length octets.new.items ≡ length octets.old.items + payload_room_in format
         * sectors_of_snapshot_in format root.now.snapshot_length) }
-    ensures octets { D.is_honest device.old → (c : List (List ℕ)) → IsAltered format c (D.seen device.old)
-        → OnOk result (octets.new.items ≡ octets.old.items ++ flat_map (payload_in format) (sectors_from c at
-        (sectors_of_snapshot_in format root.now.snapshot_length))) }
-    ensures damaged { D.is_honest device.old → (c : List (List ℕ)) → IsAltered format c (D.seen device.old)
-        → (x : List ℕ) → SaysRootIn format x root.now
-        → IfErr result (λ e. NamesSpoilt format (D.seen device.old) at
-        (at + sectors_of_snapshot_in format root.now.snapshot_length) e ⊎ IsBadPartIn format x at c e) }
-    ensures not_own { D.is_honest device.old → (x : List ℕ) → SaysRootIn format x root.now → (index : ℕ)
-        → IsReachedPartIn format x at (D.seen device.old) index
-        → (IsIntactIn format (at + index) (sector_at (D.seen device.old) (at + index)) → ⊥)
-        → MatchResult result (λ _. ⊥) (IsThat (at + index)) }
+    ensures octets { EachOriginal D.Sectors format device.old (λ c. OnOk result
+        (octets.new.items ≡ octets.old.items ++ flat_map (payload_in format)
+        (sectors_from c at (parts_said format root.now)))) }
+    ensures damaged { EachSnapshot D.Sectors format device.old root.now (λ c x. IfErr result (λ e.
+        NamesSpoilt format (D.seen device.old) at (at + parts_said format root.now) e
+        ⊎ IsBadPartIn format x at c e)) }
+    ensures not_own { EachSpoiltPart D.Sectors format device.old root.now at
+        (λ position. MatchResult result (λ _. ⊥) (IsThat position)) }
     ensures device { result ≡ Err ReadError.Device → HasRisen (D.failed device.old) (D.failed device.new) }
     ensures quiet { OnOk result (D.failed device.new ≡ D.failed device.old) }
     ensures reads { OnlyReads D.Sectors device.old device.new }

@@ -2,19 +2,14 @@
 ghost use Rattle.std.specs.Prelude.{◌≡◌, ◌⊎◌, ◌≤◌, ◌<◌, List, ℕ, None, IfOk, IfErr, OnOk, MatchResult};
 ghost use Rattle.dns_records.specs.Record.{Record as Stated};
 ghost use Rattle.dns_zone.specs.Zone.{IsZone};
-ghost use Rattle.dns_layout.specs.Sector.{sector_at};
-ghost use Rattle.dns_layout.specs.Own.{IsIntactIn, IsAltered};
-ghost use Rattle.dns_layout.specs.Journal.{Entry};
 ghost use Rattle.dns_changes.specs.Change.{Change as StatedChange, IsChange, applied, change_fault};
 ghost use Rattle.dns_changes.specs.Entry.{HasEntry, entry};
-ghost use Rattle.dns_journal.specs.Reads.{OnlyReads, HasRisen, ReadsFrom};
-ghost use Rattle.dns_store.specs.Versions.{Versions};
+ghost use Rattle.dns_journal.specs.Reads.{OnlyReads, HasRisen, TellsSpoilt};
 ghost use Rattle.dns_store.specs.Plain.{octets_of, sectors_of_snapshot_in};
-ghost use Rattle.dns_store.specs.Opens.{AreChangesIn};
-ghost use Rattle.dns_store.specs.Recovered.{IsNewestRecovered};
+ghost use Rattle.dns_store.specs.Recovered.{EachJournal, GivenMemory, IsNewestRecovered};
 ghost use Rattle.dns_store.specs.Root.{IsOfBank};
 ghost use Rattle.dns_store.specs.Damage.{NamesSector, NamesSpoiltIn, NamesWrongEntryIn, IsReachedEntryIn};
-ghost use Rattle.dns_store.specs.Damage.{RefusesSpoilt};
+ghost use Rattle.dns_store.specs.Damage.{EachStep, IfFits, RefusesJournal};
 
 use crate::OpenError;
 use crate::incremental_check::next_zone;
@@ -33,7 +28,7 @@ fn next_by<I: ZoneIndex>(zone: &Zone<I>, change: &Change) -> Result<Zone<I>, Cha
         × (change_fault change.now zone.now.records ≡ None) × (next.apex ≡ zone.now.apex) × IsZone next) }
     ensures only { (after : List Stated) → IsChange zone.now.records after change.now
         → IsZone (record { apex = zone.now.apex; records = after })
-        → MatchResult result (λ next. next.records ≡ after) (λ e. e ≡ ChangeError.OutOfMemory) }
+        → GivenMemory result (λ next. next.records ≡ after) }
     ensures taken { change_fault change.now zone.now.records ≡ None
         → IsZone (record { apex = zone.now.apex; records = applied change.now zone.now.records })
         → IfErr result (λ e. e ≡ ChangeError.OutOfMemory) }
@@ -64,15 +59,12 @@ fn take_step<I: ZoneIndex>(
         × (r.1.apex ≡ zone.now.apex) × IsZone r.1) }
     ensures fits { IfOk result (λ r. (r.2 ≡ octets_of r.1.records)
         × (sectors_of_snapshot_in format r.1.records ≤ room)) }
-    ensures only { (after : List Stated) (c : StatedChange) → IsChange zone.now.records after c → HasEntry c
-        → entry c ≡ octets.now → IsZone (record { apex = zone.now.apex; records = after })
-        → sectors_of_snapshot_in format after ≤ room
-        → MatchResult result (λ r. (r.0 ≡ c) × (r.1.records ≡ after)) (λ e. e ≡ ChangeError.OutOfMemory) }
+    ensures only { EachStep format zone.now.apex room zone.now.records octets.now (λ after c.
+        GivenMemory result (λ r. (r.0 ≡ c) × (r.1.records ≡ after))) }
     ensures taken { (c : StatedChange) → HasEntry c → entry c ≡ octets.now
         → change_fault c zone.now.records ≡ None
-        → IsZone (record { apex = zone.now.apex; records = applied c zone.now.records })
-        → sectors_of_snapshot_in format (applied c zone.now.records) ≤ room
-        → MatchResult result (λ r. r.0 ≡ c) (λ e. e ≡ ChangeError.OutOfMemory) }
+        → IfFits format zone.now.apex room (applied c zone.now.records)
+        (GivenMemory result (λ r. r.0 ≡ c)) }
 {
     let _valid = zone.apex();
     let change = Change::decode(alloc, octets)?;
@@ -106,11 +98,10 @@ pub(crate) fn read_versions<D: Sectors, I: ZoneIndex>(
     requires at { cursor.old.at ≤ cursor.old.until }
     ensures within { cursor.new.at ≤ cursor.new.until }
     ensures apex { IfOk result (λ r. r.0.apex ≡ base.apex) }
-    ensures reads_all { D.is_honest device.old → (c : List (List ℕ)) → IsAltered format c (D.seen device.old)
-        → (vs : Versions) (es : List Entry) → ReadsFrom format cursor.old c es
-        → AreChangesIn format base.apex room base.records vs es
-        → MatchResult result (λ r. IsNewestRecovered cursor.old cursor.new base.records vs es r.0.records
-        r.1.items) (RefusesSpoilt format (D.seen device.old) cursor.old.at cursor.old.until) }
+    ensures reads_all { EachJournal D.Sectors format device.old cursor.old base room (λ vs es.
+        MatchResult result
+        (λ r. IsNewestRecovered cursor.old cursor.new base.records vs es r.0.records r.1.items)
+        (RefusesJournal format (D.seen device.old) cursor.old)) }
     ensures until { cursor.new.until ≡ cursor.old.until }
     ensures refused { IfErr result IsOfBank }
     // `Damaged` names a sector that is neither zeros nor its own, or that of the first entry that is wrong.
@@ -120,8 +111,7 @@ pub(crate) fn read_versions<D: Sectors, I: ZoneIndex>(
     // Of a sector that is reached and is neither zeros nor its own it says so.
     ensures not_own { D.is_honest device.old → (position : ℕ)
         → IsReachedEntryIn format base.apex room base.records cursor.old (D.seen device.old) position
-        → (IsIntactIn format position (sector_at (D.seen device.old) position) → ⊥)
-        → MatchResult result (λ _. ⊥) (NamesSector position) }
+        → TellsSpoilt format (D.seen device.old) position result (NamesSector position) }
     ensures device { result ≡ Err OpenError.Device → HasRisen (D.failed device.old) (D.failed device.new) }
     ensures quiet { OnOk result (D.failed device.new ≡ D.failed device.old) }
     ensures reads { OnlyReads D.Sectors device.old device.new }
