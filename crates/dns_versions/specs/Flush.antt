@@ -1,7 +1,10 @@
 -- What a flush makes of zones.
 use Rattle.std.specs.Prelude.{◌≡◌, ◌⊎◌, ◌<◌, ◌≤◌, ◌-◌, ◌^◌, ℕ, suc, Bool, true, false, ◌||◌, List, [], ◌∷◌}
-use Rattle.std.specs.Prelude.{Option, Some, None, option_map, if◌then◌else◌}
+use Rattle.std.specs.Prelude.{Option, Some, None, option_map, length, if◌then◌else◌}
+use Rattle.dns_zone.specs.Zone.{Zone}
 use Rattle.dns_store.specs.Versions.{Kept, made_durable, closed_by_failure}
+use Rattle.dns_versions.specs.declared.zone_versions.ZoneVersions.{ZoneVersions}
+use Rattle.dns_versions.specs.Held.{AllHave}
 
 abbrev pub is_none_staged : Kept → Bool
 is_none_staged k = elim (k.staged) [ [] ↦ true | v ∷ rest ↦ false ]
@@ -37,3 +40,12 @@ FailedWhere failed [] olds news = Unit {0}
 FailedWhere failed (f ∷ fails) (a ∷ olds) (b ∷ news) =
     IsCounted f (failed a) (failed b) × FailedWhere failed fails olds news
 FailedWhere failed (f ∷ fails) _ _ = ⊥
+
+-- All zones were flushed, as far as their devices let them, and the first whose device failed is told.
+abbrev pub AreFlushed : {I S : Type 0} → (S → Kept → Type 0) → (S → ℕ) → List Kept → List Zone
+    → List (ZoneVersions I S) → List (ZoneVersions I S) → Option ℕ → Type 0
+AreFlushed keeps failed ks zones olds news first =
+    (fails : List Bool) × (length fails ≡ length ks)
+    × AllHave keeps zones news (flushed_to fails ks)
+    × (first ≡ first_true fails)
+    × FailedWhere (λ b. failed b.store) fails olds news

@@ -4,6 +4,7 @@ use Rattle.dns_zone.specs.Zone.{Zone}
 use Rattle.dns_store.specs.Versions.{Kept, shown_of, newest_of}
 use Rattle.dns_store.specs.Plain.{octets_of}
 use Rattle.dns_versions.specs.declared.zone_versions.ZoneVersions.{ZoneVersions}
+use Rattle.dns_versions.specs.Each.{Each3}
 
 abbrev pub shown_zone : Kept → Zone
 shown_zone k = record { apex = k.shape.apex; records = shown_of k }
@@ -37,3 +38,8 @@ pub record HasVersions {I S : Type 0} (keeps : S → Kept → Type 0) (zone : Zo
   pub snapshot_is : b.snapshot ≡ k.shape.snapshot
   pub journal_is : b.journal ≡ k.shape.journal
   pub kept : keeps b.store k
+
+-- These are the versions of all zones, in order.
+abbrev pub AllHave : {I S : Type 0} → (S → Kept → Type 0) → List Zone → List (ZoneVersions I S) → List Kept
+    → Type 0
+AllHave keeps zones pending ks = Each3 (λ z b k. HasVersions keeps z b k) zones pending ks

@@ -30,6 +30,10 @@ has_room k after =
     && nat_le (entry_between (newest_of k) after) k.shape.journal
     && nat_lt (length k.shown + length k.staged) (2 ^ 64 - 1)
 
+-- So many octets has a snapshot of these records, if they are no more than a zone may have.
+abbrev pub AreOctetsOf : ℕ → List Record → Type 0
+AreOctetsOf octets records = length records ≤ 65536 → octets ≡ octets_of records
+
 -- The version of the plan has room, and its octets are counted.
 pub record HasPlanRoom (k : Kept) (p : Plan) : Type 0 where
   pub room : has_room k p.version.records ≡ true

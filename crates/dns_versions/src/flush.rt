@@ -3,8 +3,8 @@ ghost use Rattle.std.specs.Prelude.{◌≡◌, ◌<◌, List, ◌∷◌, [], ◌
 ghost use Rattle.dns_sectors.specs.Device.{LeavesOnly};
 ghost use Rattle.dns_store.specs.Versions.{Kept, OpensAsLeft};
 ghost use Rattle.dns_versions.specs.Each.{Each3};
-ghost use Rattle.dns_versions.specs.Held.{HasVersions, newer, newest_each};
-ghost use Rattle.dns_versions.specs.Flush.{IsCounted, FailedWhere, kept_after_flush, flushed_to, first_true};
+ghost use Rattle.dns_versions.specs.Held.{AllHave, HasVersions, newer, newest_each};
+ghost use Rattle.dns_versions.specs.Flush.{AreFlushed, IsCounted, kept_after_flush, first_true};
 
 use crate::ZoneVersions;
 use dns_store::{FlushError, ZoneStore};
@@ -56,13 +56,9 @@ pub fn flush_all<I: ZoneIndex, S: ZoneStore>(
     pending: &mut [ZoneVersions<I, S>],
 ) -> Option<usize>
     requires { length zones.old ≡ length pending.old }
-    ensures held { (ks : List Kept) → Each3 (λ z b k. HasVersions S.keeps z b k) zones.old pending.old ks
-        → (fails : List Bool) × (length fails ≡ length ks)
-        × Each3 (λ z b k. HasVersions S.keeps z b k) zones.new pending.new (flushed_to fails ks)
-        × (result ≡ first_true fails)
-        × FailedWhere (λ b. S.failed b.store) fails pending.old pending.new }
-    ensures any_moment { (ks : List Kept)
-        → Each3 (λ z b k. HasVersions S.keeps z b k) zones.old pending.old ks
+    ensures held { (ks : List Kept) → AllHave S.keeps zones.old pending.old ks
+        → AreFlushed S.keeps S.failed ks zones.new pending.old pending.new result }
+    ensures any_moment { (ks : List Kept) → AllHave S.keeps zones.old pending.old ks
         → Each3 (λ a b k. LeavesOnly S.moment S.left_since a.store b.store (OpensAsLeft S.opens k))
         pending.old pending.new ks }
     ensures newest { newest_each zones.new pending.new ≡ newest_each zones.old pending.old }

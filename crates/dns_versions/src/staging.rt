@@ -6,10 +6,9 @@ ghost use Rattle.dns_changes.specs.Change.{IsChange};
 ghost use Rattle.dns_changes.specs.Version.{IsVersionAfter};
 ghost use Rattle.dns_store.specs.Versions.{Kept, StandsStill, newest_of, staged_with};
 ghost use Rattle.dns_versions.specs.Held.{HasVersions, newer, newest_zone};
-ghost use Rattle.dns_store.specs.Plain.{octets_of};
 ghost use Rattle.dns_store.specs.Room.{entry_between};
-ghost use Rattle.dns_versions.specs.Staging.{HasPlanRoom, HasRoomBy, IsPlan, IsRoomTold, has_room};
-ghost use Rattle.dns_versions.specs.Staging.{sectors_lacked};
+ghost use Rattle.dns_versions.specs.Staging.{AreOctetsOf, HasPlanRoom, HasRoomBy, IsPlan, IsRoomTold};
+ghost use Rattle.dns_versions.specs.Staging.{has_room, sectors_lacked};
 
 use crate::ZoneVersions;
 use dns_changes::PreparedEntry;
@@ -94,7 +93,7 @@ impl<I: ZoneIndex, S: ZoneStore> ZoneVersions<I, S> {
     fn has_room(&self, records: &I, octets: usize, sectors: usize) -> bool
         ensures room { (k : Kept) (zone : Stated)
             → HasVersions S.keeps zone self.now k
-            → (length (I.records records.now) ≤ 65536 → octets ≡ octets_of (I.records records.now))
+            → AreOctetsOf octets (I.records records.now)
             → sectors ≡ entry_between (newest_of k) (I.records records.now)
             → result ≡ has_room k (I.records records.now) }
         ensures few { result ≡ true → length (I.records records.now) ≤ 65536 }
