@@ -25,7 +25,7 @@ use Rattle.dns_devices.specs.Stores.{LeavesKept, own_shape}
 use Rattle.dns_commands.specs.declared.next_version.Loaded.{Loaded}
 use Rattle.dns_commands.specs.declared.next_version.Loaded.TheVariants.{Already, Next}
 use Rattle.dns_commands.specs.Load.{IsBaseForRecords, IsLoadedInto, IsNextKept, IsSerialRaised, with_next}
-use Rattle.dns_theorem.specs.Lives.{IsFiled, IsOpenedAs, IsOpenedWith}
+use Rattle.dns_theorem.specs.Lives.{IsFiled, IsReopenedAs, IsOpenedWith}
 use Rattle.dns_theorem.proofs.Tended.{durable_becomes, loaded_becomes, migrated_becomes, reopened_becomes}
 use Rattle.dns_acts.specs.Acts.{IsStoredAs, IsStoredOld, IsUnloaded, LeavesDumped, LeavesLoaded, LeavesLoading, LeavesMigrated, LeavesMigrating, LeavesOpening, LeavesUnloaded, LeavesZone, OpensAsZone}
 
@@ -179,7 +179,7 @@ migratable own z o c (inl held) = inl held.holds
 migratable own z o c (inr held) = inr (held.before, held.holds, held.becomes)
 
 -- the zone that is opened of that
-migrated_zone : (own : ZoneSettings) (z : ZoneState) (o : Opened) (c : Content) → IsStoredAs own z o c ⊎ IsStoredOld own z o c → (w : ZoneState) × IsOpenedWith [] z w × IsOpenedAs w o
+migrated_zone : (own : ZoneSettings) (z : ZoneState) (o : Opened) (c : Content) → IsStoredAs own z o c ⊎ IsStoredOld own z o c → (w : ZoneState) × IsOpenedWith [] z w × IsReopenedAs w o
 migrated_zone own z o c (inl held) = (z, same_zone own z o c held, held.opened)
 migrated_zone own z o c (inr held) = migrated_becomes z held.before o held.opened (subst (λ (s : Shape). IsMigrated s held.before o) (sym held.shape) held.becomes)
 

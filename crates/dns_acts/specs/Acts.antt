@@ -19,14 +19,14 @@ use Rattle.dns_devices.specs.Stores.{LeavesKept, own_shape}
 use Rattle.dns_commands.specs.declared.next_version.Loaded.{Loaded}
 use Rattle.dns_commands.specs.declared.next_version.Loaded.TheVariants.{Already, Next}
 use Rattle.dns_commands.specs.Load.{IsLoadedOn, OpensAsLoading}
-use Rattle.dns_theorem.specs.Lives.{HasLoaded, IsOpenedAs, IsOpenedWith}
+use Rattle.dns_theorem.specs.Lives.{HasLoaded, IsReopenedAs, IsOpenedWith}
 
 -- The content is a store's of these settings that opens as these versions, and the zone is as it is opened
 -- then.
 pub record IsStoredAs (own : ZoneSettings) (z : ZoneState) (o : Opened) (c : Content) : Type 0 where
   pub shape : z.setting.shape ≡ own_shape own
   pub holds : opens (own_shape own) o c
-  pub opened : IsOpenedAs z o
+  pub opened : IsReopenedAs z o
 
 -- The content is of format 1, `migrate` makes these versions of it, with the base that is chosen, and the
 -- zone is as a store is opened that holds what it holds.
@@ -35,12 +35,12 @@ pub record IsStoredOld (own : ZoneSettings) (z : ZoneState) (o : Opened) (c : Co
   pub before : Opened
   pub holds : old_opens (own_shape own) before c
   pub becomes : IsMigrated (own_shape own) before o
-  pub opened : IsOpenedAs z before
+  pub opened : IsReopenedAs z before
 
 -- By these rules the content opens as some versions, and the zone that is opened of them has become so.
 abbrev pub OpensAsZone : (Opened → Content → Type 0) → (ZoneState → Type 0) → Content → Type 0
 OpensAsZone rules becomes c =
-    (o : Opened) × rules o c × (w : ZoneState) × becomes w × IsOpenedAs w o
+    (o : Opened) × rules o c × (w : ZoneState) × becomes w × IsReopenedAs w o
 
 -- Each crash from now on leaves what opens as a zone that has become so.
 abbrev pub LeavesZone : {D : Type 0} → Ghosts D → D → ZoneSettings → (ZoneState → Type 0) → Type 0

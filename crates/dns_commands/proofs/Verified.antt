@@ -42,7 +42,7 @@ use Rattle.dns_devices.specs.Stores.{own_shape}
 use Rattle.dns_commands.specs.declared.commands.verify.Found.{Found}
 use Rattle.dns_commands.specs.Frame.{run_end}
 use Rattle.dns_commands.specs.declared.commands.verify.Figures.{Figures}
-use Rattle.dns_commands.specs.Verify.{AreFindings, AreSpoilt, Finding, IsFinding, IsTested, IsToldAs, IsUnwell, VerifyingEnds, figures_of, finding_status, printed_of, reported_of, spoilt_status, told_of, worst_of}
+use Rattle.dns_commands.specs.Verify.{AreFindings, AreSpoilt, Finding, IsFinding, IsTested, IsFindingTold, IsUnwell, VerifyingEnds, figures_of, finding_status, printed_of, reported_of, spoilt_status, zone_texts, worst_of}
 
 -- ---- the figures of a store that was read
 
@@ -91,12 +91,12 @@ findings_more {D = D} g every calls next (s ∷ settings) own (f ∷ findings) f
     (h.0, h.1 ++ next, ap (λ (t : List (DeviceCall D)). t ++ next) h.2 ∙ append_assoc h.0 h.1 next, h.3, findings_more g every h.1 next settings own findings finding h.4 k)
 
 -- so many findings as zones
-pub told_more : {D : Type 0} (g : Ghosts D) (every : Bool) (calls : List (DeviceCall D)) (text : ZoneSettings → Finding → List ℕ) (settings : List ZoneSettings) (own : ZoneSettings) (findings : List Finding) (finding : Finding) → AreFindings g every calls settings findings → told_of text (settings ++ own ∷ []) (findings ++ finding ∷ []) ≡ told_of text settings findings ++ text own finding
+pub told_more : {D : Type 0} (g : Ghosts D) (every : Bool) (calls : List (DeviceCall D)) (text : ZoneSettings → Finding → List ℕ) (settings : List ZoneSettings) (own : ZoneSettings) (findings : List Finding) (finding : Finding) → AreFindings g every calls settings findings → zone_texts text (settings ++ own ∷ []) (findings ++ finding ∷ []) ≡ zone_texts text settings findings ++ text own finding
 told_more g every calls text [] own [] finding h = append-nil (text own finding)
 told_more g every calls text [] own (f ∷ findings) finding h = absurd h
 told_more g every calls text (s ∷ settings) own [] finding h = absurd h
 told_more g every calls text (s ∷ settings) own (f ∷ findings) finding h =
-    ap (λ (t : List ℕ). text s f ++ t) (told_more g every h.1 text settings own findings finding h.4) ∙ sym (append_assoc (text s f) (told_of text settings findings) (text own finding))
+    ap (λ (t : List ℕ). text s f ++ t) (told_more g every h.1 text settings own findings finding h.4) ∙ sym (append_assoc (text s f) (zone_texts text settings findings) (text own finding))
 
 pub worst_more : (findings : List Finding) (finding : Finding) → worst_of (findings ++ finding ∷ []) ≡ max (worst_of findings) (finding_status finding)
 worst_more [] finding = omega arith
@@ -156,24 +156,24 @@ untested g own old mid new error first quiet then failed (inr is) = record {
 -- ---- what is told
 
 -- What is wrong with a device is reported.
-pub reported_as : {C E : Type 0} (calls : List C) (own : ZoneSettings) (fault : DeviceFault) (explain : Bool) (out err err_after : Option (List ℕ)) (r : Result ℕ E) → IfOk r (λ status. status ≡ status_of fault) → OnOk r (Appends err err_after (reported_of explain own (Err fault))) → IfOk r (λ status. IsToldAs own (Err fault) (run_end calls explain out out err err_after status))
+pub reported_as : {C E : Type 0} (calls : List C) (own : ZoneSettings) (fault : DeviceFault) (explain : Bool) (out err err_after : Option (List ℕ)) (r : Result ℕ E) → IfOk r (λ status. status ≡ status_of fault) → OnOk r (Appends err err_after (reported_of explain own (Err fault))) → IfOk r (λ status. IsFindingTold own (Err fault) (run_end calls explain out out err err_after status))
 reported_as calls own fault explain out err err_after (Err e) is said = tt
 reported_as calls own fault explain out err err_after (Ok status) is said = record { printed = Appends-nil out; reported = said; status_is = is }
 
 -- What was found of a store that is well is told.
-pub told_as : {C E : Type 0} (calls : List C) (own : ZoneSettings) (found : Found) (explain : Bool) (out out_after err err_after : Option (List ℕ)) (r : Result ℕ E) → IfOk r (λ status. status ≡ spoilt_status found.spoilt.items) → OnOk r (Appends out out_after (printed_of own (Ok found))) → OnOk r (Appends err err_after (reported_of explain own (Ok found))) → IfOk r (λ status. IsToldAs own (Ok found) (run_end calls explain out out_after err err_after status))
+pub told_as : {C E : Type 0} (calls : List C) (own : ZoneSettings) (found : Found) (explain : Bool) (out out_after err err_after : Option (List ℕ)) (r : Result ℕ E) → IfOk r (λ status. status ≡ spoilt_status found.spoilt.items) → OnOk r (Appends out out_after (printed_of own (Ok found))) → OnOk r (Appends err err_after (reported_of explain own (Ok found))) → IfOk r (λ status. IsFindingTold own (Ok found) (run_end calls explain out out_after err err_after status))
 told_as calls own found explain out out_after err err_after (Err e) is printed said = tt
 told_as calls own found explain out out_after err err_after (Ok status) is printed said = record { printed = printed; reported = said; status_is = is }
 
 -- All zones were looked at.
-pub all_told : {D : Type 0} (g : Ghosts D) (every : Bool) (calls : List (DeviceCall D)) (settings : List ZoneSettings) (findings : List Finding) (explain : Bool) (out out_after err err_after : Option (List ℕ)) (status n : ℕ) → length settings ≤ n → AreFindings g every calls (take n settings) findings → Appends out out_after (told_of printed_of (take n settings) findings) → Appends err err_after (told_of (reported_of explain) (take n settings) findings) → status ≡ worst_of findings → VerifyingEnds g every settings (run_end calls explain out out_after err err_after status)
+pub all_told : {D : Type 0} (g : Ghosts D) (every : Bool) (calls : List (DeviceCall D)) (settings : List ZoneSettings) (findings : List Finding) (explain : Bool) (out out_after err err_after : Option (List ℕ)) (status n : ℕ) → length settings ≤ n → AreFindings g every calls (take n settings) findings → Appends out out_after (zone_texts printed_of (take n settings) findings) → Appends err err_after (zone_texts (reported_of explain) (take n settings) findings) → status ≡ worst_of findings → VerifyingEnds g every settings (run_end calls explain out out_after err err_after status)
 all_told g every calls settings findings explain out out_after err err_after status n all found printed reported status_is =
     let whole = take_all n settings all in
     inl (record {
       findings = findings;
       found = subst (λ (ss : List ZoneSettings). AreFindings g every calls ss findings) whole found;
-      printed = subst (λ (ss : List ZoneSettings). Appends out out_after (told_of printed_of ss findings)) whole printed;
-      reported = subst (λ (ss : List ZoneSettings). Appends err err_after (told_of (reported_of explain) ss findings)) whole reported;
+      printed = subst (λ (ss : List ZoneSettings). Appends out out_after (zone_texts printed_of ss findings)) whole printed;
+      reported = subst (λ (ss : List ZoneSettings). Appends err err_after (zone_texts (reported_of explain) ss findings)) whole reported;
       status_is = status_is;
     })
 
@@ -187,7 +187,7 @@ stopped_at g every calls next settings n own findings finding explain out out_af
 })
 
 -- One more is told.
-pub one_more : {D : Type 0} (g : Ghosts D) (every : Bool) (calls next : List (DeviceCall D)) (settings : List ZoneSettings) (n : ℕ) (own : ZoneSettings) (findings : List Finding) (finding : Finding) (explain : Bool) (out mid out_after err err_mid err_after : Option (List ℕ)) (worst status : ℕ) → n < length settings → AreFindings g every calls (take n settings) findings → Appends out mid (told_of printed_of (take n settings) findings) → Appends err err_mid (told_of (reported_of explain) (take n settings) findings) → worst ≡ worst_of findings → IsFinding g every next (get_or settings n own) finding → IsToldAs (get_or settings n own) finding (run_end next explain mid out_after err_mid err_after status) → (all : List Finding) × AreFindings g every (calls ++ next) (take (suc n) settings) all × Appends out out_after (told_of printed_of (take (suc n) settings) all) × Appends err err_after (told_of (reported_of explain) (take (suc n) settings) all) × (max worst status ≡ worst_of all)
+pub one_more : {D : Type 0} (g : Ghosts D) (every : Bool) (calls next : List (DeviceCall D)) (settings : List ZoneSettings) (n : ℕ) (own : ZoneSettings) (findings : List Finding) (finding : Finding) (explain : Bool) (out mid out_after err err_mid err_after : Option (List ℕ)) (worst status : ℕ) → n < length settings → AreFindings g every calls (take n settings) findings → Appends out mid (zone_texts printed_of (take n settings) findings) → Appends err err_mid (zone_texts (reported_of explain) (take n settings) findings) → worst ≡ worst_of findings → IsFinding g every next (get_or settings n own) finding → IsFindingTold (get_or settings n own) finding (run_end next explain mid out_after err_mid err_after status) → (all : List Finding) × AreFindings g every (calls ++ next) (take (suc n) settings) all × Appends out out_after (zone_texts printed_of (take (suc n) settings) all) × Appends err err_after (zone_texts (reported_of explain) (take (suc n) settings) all) × (max worst status ≡ worst_of all)
 one_more g every calls next settings n own findings finding explain out mid out_after err err_mid err_after worst status inside found printed reported worst_is is told =
     let z = get_or settings n own in
     let before = take n settings in
@@ -195,9 +195,9 @@ one_more g every calls next settings n own findings finding explain out mid out_
     let all = findings ++ finding ∷ [] in (
       all,
       subst (λ (ss : List ZoneSettings). AreFindings g every (calls ++ next) ss all) more (findings_more g every calls next before z findings finding found is),
-      subst (λ (ss : List ZoneSettings). Appends out out_after (told_of printed_of ss all)) more
-          (subst (λ (t : List ℕ). Appends out out_after t) (sym (told_more g every calls printed_of before z findings finding found)) (Appends-trans out mid out_after (told_of printed_of before findings) (printed_of z finding) printed told.printed)),
-      subst (λ (ss : List ZoneSettings). Appends err err_after (told_of (reported_of explain) ss all)) more
-          (subst (λ (t : List ℕ). Appends err err_after t) (sym (told_more g every calls (reported_of explain) before z findings finding found)) (Appends-trans err err_mid err_after (told_of (reported_of explain) before findings) (reported_of explain z finding) reported told.reported)),
+      subst (λ (ss : List ZoneSettings). Appends out out_after (zone_texts printed_of ss all)) more
+          (subst (λ (t : List ℕ). Appends out out_after t) (sym (told_more g every calls printed_of before z findings finding found)) (Appends-trans out mid out_after (zone_texts printed_of before findings) (printed_of z finding) printed told.printed)),
+      subst (λ (ss : List ZoneSettings). Appends err err_after (zone_texts (reported_of explain) ss all)) more
+          (subst (λ (t : List ℕ). Appends err err_after t) (sym (told_more g every calls (reported_of explain) before z findings finding found)) (Appends-trans err err_mid err_after (zone_texts (reported_of explain) before findings) (reported_of explain z finding) reported told.reported)),
       (λ i. max (worst_is i) (told.status_is i)) ∙ sym (worst_more findings finding),
     )

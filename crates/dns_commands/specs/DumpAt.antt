@@ -1,10 +1,12 @@
 -- The version of a zone with a serial, and how a run ends that prints it.
 use Rattle.std.specs.Prelude.{◌≡◌, ◌⊎◌, ◌≤◌, ◌<◌, ℕ, Bool, List, ◌++◌, length, take, drop, Option, Some}
-use Rattle.std.specs.Prelude.{None, Result, Ok, Err, codes, decimal, if◌then◌else◌}
+use Rattle.std.specs.Prelude.{None, Result, Ok, Err, MatchResult, codes, decimal, if◌then◌else◌}
 use Rattle.std.specs.String.{string_bytes}
 use Rattle.std.specs.Io.KnownBytes.{Appends, Keeps}
 use Rattle.dns_records.specs.Record.{Record}
 use Rattle.dns_zone.specs.Zone.{Zone, soas}
+use Rattle.dns_changes.specs.declared.ChangeError.{ChangeError}
+use Rattle.dns_changes.specs.declared.ChangeError.TheVariants as changes
 use Rattle.dns_changes.specs.Change.{Change}
 use Rattle.dns_changes.specs.Version.{serial_in}
 use Rattle.dns_masterfile.specs.Printed.{printed_zone}
@@ -34,6 +36,26 @@ pub record HasNoVersion (newest : List Record) (changes : List Change) (serial :
   pub form : (left : List Change) → form_of (serial_in (soas newest)) changes (Some serial) ≡ Incremental left
       → ⊥
 
+-- The newest of the versions after a base.
+abbrev pub newest_from : Zone → Versions → Zone
+newest_from base vs = record { apex = base.apex; records = newest_after base.records vs }
+
+-- Changes were made of a set, and it has become the newest of these versions; or memory was refused.
+abbrev pub AreAllApplied : List Record → List Record → Versions → Result (Unit {0}) ChangeError → Type 0
+AreAllApplied before after vs result =
+    MatchResult result (λ _. after ≡ newest_after before vs) (λ e. e ≡ changes.OutOfMemory)
+
+-- They lead from a base to this zone; or memory was refused,
+abbrev pub IsZoneAfter : Zone → Versions → Result Zone ChangeError → Type 0
+IsZoneAfter base vs result =
+    MatchResult result (λ z. (z.apex ≡ base.apex) × (z.records ≡ newest_after base.records vs))
+    (λ e. e ≡ changes.OutOfMemory)
+
+-- which is a fault of no device.
+abbrev pub IsMadeAfter : Zone → Versions → Result (Option Zone) DeviceFault → Type 0
+IsMadeAfter base vs result =
+    MatchResult result (λ z. z ≡ Some (newest_from base vs)) (λ e. e ≡ OutOfMemory)
+
 -- Of the versions from a base on, to which these changes lead: the newest one, if it has the serial; or the
 -- one from which an IXFR is answered by the last of the changes; or none. If there is no answer, memory was
 -- refused.
@@ -41,7 +63,7 @@ abbrev pub IsChosenFrom : Zone → List Change → Zone → Versions → ℕ →
 IsChosenFrom base changes newest vs serial (Ok (Some zone)) =
     ((zone ≡ newest) × (serial_in (soas newest.records) ≡ serial))
     ⊎ ((n : ℕ) × (n < length changes) × IsIncremental newest.records changes serial (drop n changes)
-    × (zone ≡ record { apex = base.apex; records = newest_after base.records (take n vs) }))
+    × (zone ≡ newest_from base (take n vs)))
 IsChosenFrom base changes newest vs serial (Ok None) = HasNoVersion newest.records changes serial
 IsChosenFrom base changes newest vs serial (Err fault) = fault ≡ OutOfMemory
 

@@ -31,12 +31,26 @@ run_end calls explain out out_after err err_after status = record {
   status = status;
 }
 
+-- A run that made these calls and ended with that status, by what its writers held before and after it.
+abbrev pub ended_run : {C F W E : Type 0} → (W → Option (List ℕ)) → (E → Option (List ℕ)) → Run F W E
+    → Run F W E → List C → ℕ → Ended C
+ended_run printed reported before after calls status =
+    run_end calls before.explain (printed before.out) (printed after.out) (reported before.err)
+    (reported after.err) status
+
+-- A run that ended with that status ended as P says of what its writers held before and after it.
+abbrev pub WritesEnd : {F W E : Type 0} → (W → Option (List ℕ)) → (E → Option (List ℕ)) → Run F W E
+    → Run F W E
+    → (Option (List ℕ) → Option (List ℕ) → Option (List ℕ) → Option (List ℕ) → ℕ → Type 0) → ℕ → Type 0
+WritesEnd printed reported before after P status =
+    P (printed before.out) (printed after.out) (reported before.err) (reported after.err) status
+
 -- A run that ended with that status ended as P says.
 abbrev pub RunEnds : {C F W E : Type 0} → (F → Option (List C)) → (W → Option (List ℕ))
     → (E → Option (List ℕ)) → Run F W E → Run F W E → ℕ → (Ended C → Type 0) → Type 0
 RunEnds called printed reported before after status P =
-    Calls (called before.devices) (called after.devices) (λ calls. P (run_end calls before.explain
-    (printed before.out) (printed after.out) (reported before.err) (reported after.err) status))
+    Calls (called before.devices) (called after.devices)
+    (λ calls. P (ended_run printed reported before after calls status))
 
 -- No zone is named, since the configuration is refused, or the text: that is reported with status 1, unless
 -- the writer failed or memory was refused. Nothing was called or printed.

@@ -23,7 +23,7 @@ use Rattle.dns_configuration.specs.declared.configuration.Configuration.{Configu
 use Rattle.dns_configuration.specs.declared.files.File.{File}
 use Rattle.dns_configuration.specs.declared.files.Fault.{Fault}
 use Rattle.dns_configuration.specs.declared.files.Fault.TheVariants.{BadOrigin}
-use Rattle.dns_configuration.specs.Faults.{line, fault_text}
+use Rattle.dns_configuration.specs.Faults.{line, fault_text, is_memory}
 use Rattle.dns_configuration.specs.Files.{HoldsConfiguration, IsFirstFault, IsLoadedFrom}
 use Rattle.dns_devices.specs.declared.device_faults.DeviceFault.{DeviceFault}
 use Rattle.dns_devices.specs.declared.device_faults.DeviceFault.TheVariants.{Exists, Device, Blank, Damaged}
@@ -178,6 +178,11 @@ AreChosen (Some origin) zones chosen =
 abbrev pub IsNotChosen : Option (List ℕ) → List ZoneSettings → List ℕ → Type 0
 IsNotChosen None zones word = ⊥
 IsNotChosen (Some origin) zones word = (word ≡ origin) × IsNoZone origin zones
+
+-- No zone was chosen by this word, or memory was refused.
+abbrev pub IsChoiceRefused : Option (List ℕ) → List ZoneSettings → List ℕ → Fault → Type 0
+IsChoiceRefused origin zones word fault =
+    (is_memory fault ≡ true) ⊎ ((fault ≡ BadOrigin) × IsNotChosen origin zones word)
 
 -- The zones that are chosen of the configuration, as their master files hold them.
 pub record IsGiven (config : File) (origin : Option (List ℕ)) (files : List File)

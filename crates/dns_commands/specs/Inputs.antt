@@ -1,6 +1,6 @@
 -- The files that a run reads.
 use Rattle.std.specs.Prelude.{◌≡◌, ◌⊎◌, ℕ, false, List, [], map, Option, Some, None, Ok, Err, Result, find}
-use Rattle.std.specs.Prelude.{bytes_eq, take}
+use Rattle.std.specs.Prelude.{MatchResult, bytes_eq, take}
 use Rattle.std.specs.Option.{option_copied, option_map}
 use Rattle.std.specs.Prelude.{String, Vec}
 use Rattle.std.specs.Global.{Global}
@@ -61,6 +61,16 @@ octets_read (Err error) = None
 abbrev pub inputs_of : List (String Global × Option (Vec ℕ Global)) → List Input
 inputs_of files =
     map (λ (f : String Global × Option (Vec ℕ Global)). (string_bytes f.0, octets_held f.1)) files
+
+-- These files are all that was read, and of their paths P holds; or memory was refused, and Q holds.
+abbrev pub ReadsFiles : {X : Type 0} → List Input
+    → Result (Vec (String Global × Option (Vec ℕ Global)) Global) X → (List (List ℕ) → Type 0) → Type 0
+    → Type 0
+ReadsFiles reads ended P Q =
+    MatchResult ended
+    (λ files. (reads ≡ inputs_of files.items)
+    × P (map (λ (f : String Global × Option (Vec ℕ Global)). string_bytes f.0) files.items))
+    (λ _. Q)
 
 -- The master files of the first zones were read, in their order.
 abbrev pub AreFirstFiles : List ZoneSettings → List Input → Type 0

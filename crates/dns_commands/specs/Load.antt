@@ -9,12 +9,14 @@ use Rattle.dns_changes.specs.Version.{serial_in}
 use Rattle.dns_sectors.specs.Device.{Content, LeavesOnly}
 use Rattle.dns_sectors.specs.declared.device.Sectors.{Ghosts}
 use Rattle.dns_journal.specs.Reads.{HasRisen}
+use Rattle.dns_store.specs.declared.zone_store.ZoneStore as store
 use Rattle.dns_store.specs.Checkpoint.{IsKeptNumber}
 use Rattle.dns_store.specs.Opening.{IsInRange, MayOpen, OpensAsPossible}
 use Rattle.dns_store.specs.Opens.{fresh, opens}
 use Rattle.dns_store.specs.Room.{entry_between, sectors_left}
 use Rattle.dns_store.specs.Versions.{Kept, Opened, OpensAsLeft, Shape, made_durable, moved_to, newest_of}
 use Rattle.dns_store.specs.Versions.{opened_again, staged_with}
+use Rattle.dns_versions.specs.declared.zone_versions.ZoneVersions.{ZoneVersions}
 use Rattle.dns_versions.specs.Held.{shown_zone}
 use Rattle.dns_versions.specs.Staging.{HasPlanRoom, Plan, has_room}
 use Rattle.dns_configuration.specs.declared.configuration.ZoneSettings.{ZoneSettings}
@@ -142,6 +144,45 @@ OpensAsLoading opens keep records k c =
     ⊎ ((base : ℕ) × IsBaseForRecords keep records k base × IsSerialRaised (newest_of k) records
     × (has_room k records ≡ true)
     × OpensAsLeft opens (staged_with records (moved_to base k)) c)
+
+-- As many sectors are left of the journal as the entry of a plan takes.
+abbrev pub HasSectorsLeft : Kept → Plan → Type 0
+HasSectorsLeft k p = entry_between (newest_of k) p.version.records ≤ sectors_left k
+
+module _ {S : Type 0} (s : store.Ghosts S) where
+  -- A store makes room in its journal for the entry of the version of these records,
+  abbrev pub MakesRoom : S → S → ℕ → List Record → Kept → Result (Unit {0}) DeviceFault → Type 0
+  MakesRoom old new keep records k result =
+      IsRoomMade (s.keeps new) (s.failed old) (s.failed new) keep (entry_between (newest_of k) records) k
+      result
+
+  -- and this is what a crash meanwhile leaves.
+  abbrev pub LeavesMakingRoom : S → S → ℕ → List Record → Kept → Type 0
+  LeavesMakingRoom old new keep records k =
+      LeavesOnly s.moment s.left_since old new
+      (OpensAsMoved s.opens keep (entry_between (newest_of k) records) k)
+
+  -- The version of a plan becomes the newest of a zone, and durable,
+  abbrev pub StoresPlan : {I : Type 0} → ZoneVersions I S → ZoneVersions I S → Plan → Kept
+      → Result ℕ DeviceFault → Type 0
+  StoresPlan old new p k result =
+      IsStored (s.keeps new.store) (s.failed old.store) (s.failed new.store) p.version.records k result
+
+  -- and this is what a crash meanwhile leaves.
+  abbrev pub LeavesStoringPlan : {I : Type 0} → ZoneVersions I S → ZoneVersions I S → Plan → Kept → Type 0
+  LeavesStoringPlan old new p k =
+      LeavesOnly s.moment s.left_since old.store new.store
+      (OpensAsLeft s.opens (staged_with p.version.records k))
+
+  -- A store loads these records as its next version,
+  abbrev pub LoadsRecords : S → S → ℕ → List Record → Kept → Result Loaded DeviceFault → Type 0
+  LoadsRecords old new keep records k result =
+      IsLoadedInto (s.keeps new) (s.failed old) (s.failed new) keep records k result
+
+  -- and this is what a crash meanwhile leaves.
+  abbrev pub LeavesLoadingRecords : S → S → ℕ → List Record → Kept → Type 0
+  LeavesLoadingRecords old new keep records k =
+      LeavesOnly s.moment s.left_since old new (OpensAsLoading s.opens keep records k)
 
 -- A crash leaves what opens as a content does that one might have left of the device before, opened as often
 -- or once more; or these versions, opened once more, as loading the records leaves them.

@@ -1,7 +1,7 @@
 -- What the devices of zones open as, which are only read, and how a run that looks at them ends.
 use Rattle.std.specs.Prelude.{◌≡◌, ◌⊎◌, ◌-◌, ℕ, zero, suc, max, Bool, true, false, List, [], ◌∷◌, ◌++◌}
 use Rattle.std.specs.Prelude.{length, take, flat_map}
-use Rattle.std.specs.Prelude.{Option, None, Some, Result, Ok, Err, MatchResult, codes, decimal}
+use Rattle.std.specs.Prelude.{Option, None, Some, Result, Ok, Err, IfOk, MatchResult, codes, decimal}
 use Rattle.std.specs.Prelude.{if◌then◌else◌}
 use Rattle.std.specs.Option.{option_copied}
 use Rattle.std.specs.String.{string_bytes}
@@ -172,9 +172,9 @@ reported_of explain own (Err fault) =
     if is_memory_fault fault then [] else line (device_text (string_bytes own.device) fault explain)
 
 -- The texts of all zones, in their order.
-abbrev pub told_of : (ZoneSettings → Finding → List ℕ) → List ZoneSettings → List Finding → List ℕ
-told_of text (own ∷ settings) (finding ∷ findings) = text own finding ++ told_of text settings findings
-told_of text _ _ = []
+abbrev pub zone_texts : (ZoneSettings → Finding → List ℕ) → List ZoneSettings → List Finding → List ℕ
+zone_texts text (own ∷ settings) (finding ∷ findings) = text own finding ++ zone_texts text settings findings
+zone_texts text _ _ = []
 
 -- The exit status of one.
 abbrev pub spoilt_status : List ℕ → ℕ
@@ -186,10 +186,17 @@ finding_status (Ok found) = spoilt_status found.spoilt.items
 finding_status (Err fault) = status_of fault
 
 -- The finding of one zone is told, and makes the status.
-pub record IsToldAs {C : Type 0} (own : ZoneSettings) (finding : Finding) (e : Ended C) : Type 0 where
+pub record IsFindingTold {C : Type 0} (own : ZoneSettings) (finding : Finding) (e : Ended C) : Type 0 where
   pub printed : Appends e.out e.out_after (printed_of own finding)
   pub reported : Appends e.err e.err_after (reported_of e.explain own finding)
   pub status_is : e.status ≡ finding_status finding
+
+-- Something was found of the device of a zone, and where there is a status it was told.
+abbrev pub IsFoundAndTold : {D X : Type 0} → Ghosts D → Bool → List (DeviceCall D) → ZoneSettings
+    → Result ℕ X → (ℕ → Ended (DeviceCall D)) → Type 0
+IsFoundAndTold g every calls own result ended =
+    (finding : Finding) × IsFinding g every calls own finding
+    × IfOk result (λ status. IsFindingTold own finding (ended status))
 
 -- The exit status of the worst.
 abbrev pub worst_of : List Finding → ℕ
@@ -202,8 +209,8 @@ pub record IsAllTold {D : Type 0} (g : Ghosts D) (every : Bool) (settings : List
     (e : Ended (DeviceCall D)) : Type 0 where
   pub findings : List Finding
   pub found : AreFindings g every e.calls settings findings
-  pub printed : Appends e.out e.out_after (told_of printed_of settings findings)
-  pub reported : Appends e.err e.err_after (told_of (reported_of e.explain) settings findings)
+  pub printed : Appends e.out e.out_after (zone_texts printed_of settings findings)
+  pub reported : Appends e.err e.err_after (zone_texts (reported_of e.explain) settings findings)
   pub status_is : e.status ≡ worst_of findings
 
 -- A writer failed; the devices of the first zones were looked at.

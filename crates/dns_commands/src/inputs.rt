@@ -1,10 +1,9 @@
 //! The files that a run reads.
-ghost use Rattle.std.specs.Prelude.{◌≡◌, ◌∷◌, [], List, Option, None, map, find, bytes_eq, MatchResult};
+ghost use Rattle.std.specs.Prelude.{◌≡◌, ◌∷◌, [], List, Option, None, find, bytes_eq, MatchResult};
 ghost use Rattle.std.specs.Option.{option_copied};
-ghost use Rattle.std.specs.String.{string_bytes};
 ghost use Rattle.dns_configuration.specs.Calls.{Calls, HasCalled};
 ghost use Rattle.dns_commands.specs.Inputs.{AreFilesOf, AreFirstFiles, AreFirstOf, Input, IsInput};
-ghost use Rattle.dns_commands.specs.Inputs.{IsNoZoneFile, IsZoneFile, file_paths, inputs_of, octets_held};
+ghost use Rattle.dns_commands.specs.Inputs.{IsNoZoneFile, IsZoneFile, ReadsFiles, file_paths, octets_held};
 ghost use Rattle.dns_commands.specs.Inputs.{octets_read};
 
 use dns_configuration::{Fault, File, ZoneSettings, apex, read_configuration, zone_of};
@@ -86,10 +85,8 @@ fn files_of<N: Inputs>(
     inputs: &mut N,
     zones: &[ZoneSettings],
 ) -> io::Result<Vec<(String, Option<Vec<u8>>)>>
-    ensures { Calls (N.reads inputs.old) (N.reads inputs.new) (λ reads. MatchResult result
-        (λ files. (reads ≡ inputs_of files.items)
-        × (map (λ file. string_bytes file.0) files.items ≡ file_paths zones.now))
-        (λ _. AreFirstFiles zones.now reads)) }
+    ensures { Calls (N.reads inputs.old) (N.reads inputs.new) (λ reads. ReadsFiles reads result
+        (λ paths. paths ≡ file_paths zones.now) (AreFirstFiles zones.now reads)) }
 {
     let mut files = Vec::new(alloc);
     for zone in zones {
@@ -108,10 +105,9 @@ pub fn master_files<N: Inputs>(
     inputs: &mut N,
     config: &File<'_>,
 ) -> io::Result<Vec<(String, Option<Vec<u8>>)>>
-    ensures { Calls (N.reads inputs.old) (N.reads inputs.new) (λ reads. MatchResult result
-        (λ files. (reads ≡ inputs_of files.items)
-        × AreFilesOf (option_copied config.now.octets) (map (λ file. string_bytes file.0) files.items))
-        (λ _. AreFirstOf (option_copied config.now.octets) reads)) }
+    ensures { Calls (N.reads inputs.old) (N.reads inputs.new) (λ reads. ReadsFiles reads result
+        (AreFilesOf (option_copied config.now.octets))
+        (AreFirstOf (option_copied config.now.octets) reads)) }
 {
     match read_configuration(alloc, heap, config) {
         Ok(configuration) => files_of(alloc, inputs, &configuration.zones),

@@ -1,14 +1,12 @@
 //! The records of a zone's master file, as the next version of its store.
-ghost use Rattle.std.specs.Prelude.{◌≡◌, ◌≤◌, true, List, Some, None, Result, IfOk, OnOk, MatchResult};
+ghost use Rattle.std.specs.Prelude.{◌≡◌, true, List, Some, None, Result, IfOk, OnOk, MatchResult};
 ghost use Rattle.dns_records.specs.Record.{Record as Stated};
-ghost use Rattle.dns_sectors.specs.Device.{LeavesOnly};
-ghost use Rattle.dns_store.specs.Versions.{Kept, OpensAsLeft, newest_of, staged_with};
-ghost use Rattle.dns_store.specs.Room.{entry_between, sectors_left};
+ghost use Rattle.dns_store.specs.Versions.{Kept};
 ghost use Rattle.dns_versions.specs.Held.{HasVersions, newer};
 ghost use Rattle.dns_versions.specs.Staging.{HasPlanRoom, IsPlan, has_room, sectors_lacked};
-ghost use Rattle.dns_commands.specs.Load.{IsAtRest, IsChangeTo, IsLoadable, IsLoadedAs, IsLoadedInto};
-ghost use Rattle.dns_commands.specs.Load.{IsNotLoaded, IsPlanTold, IsRoomMade, IsStored, OpensAsLoading};
-ghost use Rattle.dns_commands.specs.Load.{OpensAsMoved};
+ghost use Rattle.dns_commands.specs.Load.{HasSectorsLeft, IsAtRest, IsChangeTo, IsLoadable, IsLoadedAs};
+ghost use Rattle.dns_commands.specs.Load.{IsNotLoaded, IsPlanTold, LeavesLoadingRecords, LeavesMakingRoom};
+ghost use Rattle.dns_commands.specs.Load.{LeavesStoringPlan, LoadsRecords, MakesRoom, StoresPlan};
 ghost use Rattle.dns_configuration.specs.Calls.{Calls};
 ghost use Rattle.dns_devices.specs.declared.device_faults.DeviceFault.{DeviceFault as StatedFault};
 ghost use Rattle.dns_commands.specs.declared.next_version.Loaded.{Loaded as StatedLoaded};
@@ -78,12 +76,10 @@ fn free_sectors<S: ZoneStore>(
 ) -> Result<(), DeviceFault>
     ensures made { (k : Kept) (records : List Stated) → S.keeps store.old k → IsAtRest k
         → has_room k records ≡ true → lacked ≡ sectors_lacked k records
-        → IsRoomMade (S.keeps store.new) (S.failed store.old) (S.failed store.new) keep
-        (entry_between (newest_of k) records) k result }
+        → MakesRoom S.ZoneStore store.old store.new keep records k result }
     ensures any_moment { (k : Kept) (records : List Stated) → S.keeps store.old k → IsAtRest k
         → has_room k records ≡ true → lacked ≡ sectors_lacked k records
-        → LeavesOnly S.moment S.left_since store.old store.new
-        (OpensAsMoved S.opens keep (entry_between (newest_of k) records) k) }
+        → LeavesMakingRoom S.ZoneStore store.old store.new keep records k }
     ensures quiet { OnOk result (S.failed store.new ≡ S.failed store.old) }
 {
     let Some(room) = lacked else {
@@ -105,13 +101,10 @@ fn store_plan<I: ZoneIndex, S: ZoneStore>(
 ) -> Result<u64, DeviceFault>
     requires { IsPlan (newer shown.old versions.old.tip) plan.version.records plan }
     ensures stored { (k : Kept) → HasVersions S.keeps shown.old versions.old k → IsAtRest k
-        → HasPlanRoom k plan → entry_between (newest_of k) plan.version.records ≤ sectors_left k
-        → IsStored (S.keeps versions.new.store) (S.failed versions.old.store) (S.failed versions.new.store)
-        plan.version.records k result }
+        → HasPlanRoom k plan → HasSectorsLeft k plan
+        → StoresPlan S.ZoneStore versions.old versions.new plan k result }
     ensures any_moment { (k : Kept) → HasVersions S.keeps shown.old versions.old k → IsAtRest k
-        → HasPlanRoom k plan
-        → LeavesOnly S.moment S.left_since versions.old.store versions.new.store
-        (OpensAsLeft S.opens (staged_with plan.version.records k)) }
+        → HasPlanRoom k plan → LeavesStoringPlan S.ZoneStore versions.old versions.new plan k }
 {
     match versions.stage(shown, plan) {
         Ok(()) => (),
@@ -138,11 +131,9 @@ fn load_change<I: ZoneIndex, S: ZoneStore>(
     requires apex { zone.now.apex ≡ shown.old.apex }
     requires change { IsChangeTo shown.old.records zone.now.records (Ok (Some change)) }
     ensures loaded { (k : Kept) → HasVersions S.keeps shown.old versions.old k → IsAtRest k
-        → IsLoadedInto (S.keeps versions.new.store) (S.failed versions.old.store)
-        (S.failed versions.new.store) keep zone.now.records k result }
+        → LoadsRecords S.ZoneStore versions.old.store versions.new.store keep zone.now.records k result }
     ensures any_moment { (k : Kept) → HasVersions S.keeps shown.old versions.old k → IsAtRest k
-        → LeavesOnly S.moment S.left_since versions.old.store versions.new.store
-        (OpensAsLoading S.opens keep zone.now.records k) }
+        → LeavesLoadingRecords S.ZoneStore versions.old.store versions.new.store keep zone.now.records k }
 {
     let (added, removed) = (change.added().len(), change.removed().len());
     let plan = match plan_file(heap, versions, shown, zone, change) {
@@ -180,11 +171,9 @@ fn load_file<I: ZoneIndex, S: ZoneStore>(
     requires tip { versions.old.tip ≡ None }
     requires apex { zone.now.apex ≡ shown.old.apex }
     ensures loaded { (k : Kept) → HasVersions S.keeps shown.old versions.old k → IsAtRest k
-        → IsLoadedInto (S.keeps versions.new.store) (S.failed versions.old.store)
-        (S.failed versions.new.store) keep zone.now.records k result }
+        → LoadsRecords S.ZoneStore versions.old.store versions.new.store keep zone.now.records k result }
     ensures any_moment { (k : Kept) → HasVersions S.keeps shown.old versions.old k → IsAtRest k
-        → LeavesOnly S.moment S.left_since versions.old.store versions.new.store
-        (OpensAsLoading S.opens keep zone.now.records k) }
+        → LeavesLoadingRecords S.ZoneStore versions.old.store versions.new.store keep zone.now.records k }
 {
     match change_to(heap, shown, zone) {
         Ok(Some(change)) => load_change(heap, versions, shown, keep, zone, change),
@@ -209,11 +198,11 @@ fn load_store<I: ZoneIndex, S: ZoneStore>(
 ) -> (S, Result<Loaded, DeviceFault>)
     requires { file.zone.now.apex ≡ file.newest.apex }
     ensures loaded { (k : Kept) → S.keeps store k → IsLoadable file.entry.own.now file.entry.newest k
-        → IsLoadedInto (S.keeps result.0) (S.failed store) (S.failed result.0) file.entry.own.now.keep
-        file.entry.zone.now.records k result.1 }
+        → LoadsRecords S.ZoneStore store result.0 file.entry.own.now.keep file.entry.zone.now.records k
+        result.1 }
     ensures any_moment { (k : Kept) → S.keeps store k → IsLoadable file.entry.own.now file.entry.newest k
-        → LeavesOnly S.moment S.left_since store result.0
-        (OpensAsLoading S.opens file.entry.own.now.keep file.entry.zone.now.records k) }
+        → LeavesLoadingRecords S.ZoneStore store result.0 file.entry.own.now.keep
+        file.entry.zone.now.records k }
 {
     let LoadedFile {
         heap,
@@ -255,10 +244,8 @@ impl<'a, I: ZoneIndex, S: ZoneStore> TakesFile<LoadedFile<'a, I>> for S {
     ghost can_take = { λ file. file.zone.now.apex ≡ file.newest.apex };
 
     ghost took = { λ old new file result. (k : Kept) → S.keeps old k → IsLoadable file.own.now file.newest k
-        → IsLoadedInto (S.keeps new) (S.failed old) (S.failed new) file.own.now.keep file.zone.now.records k
-        result
-        × LeavesOnly S.moment S.left_since old new
-        (OpensAsLoading S.opens file.own.now.keep file.zone.now.records k) };
+        → LoadsRecords S.ZoneStore old new file.own.now.keep file.zone.now.records k result
+        × LeavesLoadingRecords S.ZoneStore old new file.own.now.keep file.zone.now.records k };
 
     fn take_file(self, file: LoadedFile<'a, I>) -> (S, Result<Loaded, DeviceFault>) {
         load_store(self, file)

@@ -13,7 +13,7 @@ abbrev pub next_due : ℕ → ℕ → ℕ → ℕ
 next_due now every next = if is_due now every next then min (now + every) most else next
 
 -- They were told, or it wasn't time and this stayed as it was.
-abbrev pub IsTold : {E : Type 0} → Result Bool E → Type 0 → Type 0 → Type 0
-IsTold (Ok true) told same = told
-IsTold (Ok false) told same = same
-IsTold (Err e) told same = Unit {0}
+abbrev pub IsToldIfDue : {E : Type 0} → Result Bool E → Type 0 → Type 0 → Type 0
+IsToldIfDue (Ok true) told same = told
+IsToldIfDue (Ok false) told same = same
+IsToldIfDue (Err e) told same = Unit {0}

@@ -4,7 +4,7 @@ ghost use Rattle.std.specs.Io.KnownBytes.{Appends};
 ghost use Rattle.dns_primary.specs.Keeps.{IsKept};
 ghost use Rattle.dns_primary.specs.Machine.{Machine};
 ghost use Rattle.dns_counters.specs.Lines.{counts_told, zone_told, zones_told};
-ghost use Rattle.dns_counters.specs.Telling.{IsTold, is_due, next_due};
+ghost use Rattle.dns_counters.specs.Telling.{IsToldIfDue, is_due, next_due};
 
 use crate::Counters;
 use crate::lines::{write_counters, write_zone};
@@ -112,7 +112,7 @@ impl<O: Write> CountLines<'_, O> {
         ensures origins { self.new.origins.now ≡ self.old.origins.now }
         ensures due { IfOk result (λ due. due ≡ is_due now self.old.every self.old.next) }
         ensures next { self.new.next ≡ next_due now self.old.every self.old.next }
-        ensures told { IsTold result
+        ensures told { IsToldIfDue result
             ((m : Machine) → IsKept primary.now m
             → Appends (O.contents self.old.out.now) (O.contents self.new.out.now)
             (counts_told counters.now self.old.origins.now m.zones))

@@ -8,15 +8,15 @@ use Rattle.dns_network.specs.declared.stream.Stream.{Ghosts}
 use Rattle.dns_secondary.specs.Receiving.{Receiving}
 use Rattle.dns_secondary.specs.Request.{request_octets}
 use Rattle.dns_secondary.specs.declared.fault.Fault.{Fault}
-use Rattle.dns_fetch.specs.TakingIn.{HasCarried, HasHeard, HasHeardEnd, HasHeardRefusal, IsRequestAnswered, IsAnswerRefused, IsTakenIn, HearsMore, TellEnd, TellRefusal, asking, request_number}
+use Rattle.dns_fetch.specs.TakingIn.{HasExchanged, HasHeard, HasHeardEnd, HasHeardRefusal, IsRequestAnswered, IsAnswerRefused, IsTakenIn, HearsMore, TellEnd, TellRefusal, asking, request_number}
 use Rattle.dns_fetch.proofs.Heard.{IsTakenLaw, end_on, refusal_on, refused_as, taken_as}
 use Rattle.dns_fetch.proofs.Idle.{IsReadOnce, goes_on}
 
 module _ {S : Type 0} (g : Ghosts S) where
-  pub none_carried : (old : S) → HasCarried g old [] [] old
+  pub none_carried : (old : S) → HasExchanged g old [] [] old
   none_carried old = record { faithful = λ f. f; sent = λ _. sym (append-nil (g.sent old)); received = λ _. sym (append-nil (g.received old)) }
 
-  pub carried_on : (old mid new : S) (a b c d : List ℕ) → HasCarried g old a b mid → HasCarried g mid c d new → HasCarried g old (a ++ c) (b ++ d) new
+  pub carried_on : (old mid new : S) (a b c d : List ℕ) → HasExchanged g old a b mid → HasExchanged g mid c d new → HasExchanged g old (a ++ c) (b ++ d) new
   carried_on old mid new a b c d h k = record {
     faithful = λ f. k.faithful (h.faithful f);
     sent = λ f. k.sent (h.faithful f) ∙ ap (λ (x : List ℕ). x ++ c) (h.sent f) ∙ append_assoc (g.sent old) a c;
@@ -24,7 +24,7 @@ module _ {S : Type 0} (g : Ghosts S) where
   }
 
   -- It was waited.
-  pub carried_still : (old new : S) → (g.is_faithful old → g.received new ≡ g.received old) → (g.is_faithful old → g.sent new ≡ g.sent old) → (g.is_faithful new ↔ g.is_faithful old) → HasCarried g old [] [] new
+  pub carried_still : (old new : S) → (g.is_faithful old → g.received new ≡ g.received old) → (g.is_faithful old → g.sent new ≡ g.sent old) → (g.is_faithful new ↔ g.is_faithful old) → HasExchanged g old [] [] new
   carried_still old new received sent faithful = record {
     faithful = faithful.1;
     sent = λ f. sent f ∙ sym (append-nil (g.sent old));
@@ -32,7 +32,7 @@ module _ {S : Type 0} (g : Ghosts S) where
   }
 
   -- A read.
-  pub carried_in : (old new : S) (came : List ℕ) → (g.is_faithful old → g.received new ≡ g.received old ++ came) → (g.is_faithful old → g.sent new ≡ g.sent old) → (g.is_faithful new ↔ g.is_faithful old) → HasCarried g old [] came new
+  pub carried_in : (old new : S) (came : List ℕ) → (g.is_faithful old → g.received new ≡ g.received old ++ came) → (g.is_faithful old → g.sent new ≡ g.sent old) → (g.is_faithful new ↔ g.is_faithful old) → HasExchanged g old [] came new
   carried_in old new came received sent faithful = record {
     faithful = faithful.1;
     sent = λ f. sent f ∙ sym (append-nil (g.sent old));
@@ -58,7 +58,7 @@ module _ {S : Type 0} (g : Ghosts S) where
   pub writing_still : (old now next : S) (whole left : List ℕ) → IsWriting old whole now left → (g.is_faithful now → g.received next ≡ g.received now) → (g.is_faithful now → g.sent next ≡ g.sent now) → (g.is_faithful next ↔ g.is_faithful now) → IsWriting old whole next left
   writing_still old now next whole left h received sent faithful = writing_on old now next whole left left h (λ f. ap (λ (x : List ℕ). x ++ left) (sent f)) received faithful
 
-  pub written : (old now : S) (whole left : List ℕ) → IsWriting old whole now left → left ≡ [] → HasCarried g old whole [] now
+  pub written : (old now : S) (whole left : List ℕ) → IsWriting old whole now left → left ≡ [] → HasExchanged g old whole [] now
   written old now whole left h e = record {
     faithful = h.faithful;
     sent = λ f. sym (append-nil (g.sent now)) ∙ ap (λ (x : List ℕ). g.sent now ++ x) (sym e) ∙ h.sent f;
@@ -71,7 +71,7 @@ IsCutLaw = (piece next : List ℕ) (messages messages' : List (List ℕ)) (rest 
 
 module _ {S : Type 0} (g : Ghosts S) where
   -- A piece more was heard.
-  pub heard_on : IsCutLaw → (old mid new : S) (ms ns : List (List ℕ)) (rest rest' piece : List ℕ) → HasHeard g old ms rest mid → HasCarried g mid [] piece new → IsFramed (rest ++ piece) ns rest' → HasHeard g old (ms ++ ns) rest' new
+  pub heard_on : IsCutLaw → (old mid new : S) (ms ns : List (List ℕ)) (rest rest' piece : List ℕ) → HasHeard g old ms rest mid → HasExchanged g mid [] piece new → IsFramed (rest ++ piece) ns rest' → HasHeard g old (ms ++ ns) rest' new
   heard_on law old mid new ms ns rest rest' piece h k framed = record {
     octets = h.octets ++ piece;
     framed = law h.octets piece ms ns rest rest' h.framed framed;
@@ -94,23 +94,23 @@ module _ {S : Type 0} (g : Ghosts S) where
     more = (refl, refl);
   }
 
-  pub hearing_on : IsCutLaw → (old mid new : S) (a b : ℕ) (s now next : Receiving) (ns : List (List ℕ)) (rest rest' piece : List ℕ) → IsHearing old s rest mid a now → HasCarried g mid [] piece new → IsFramed (rest ++ piece) ns rest' → HearsMore a now ns b next → IsHearing old s rest' new b next
+  pub hearing_on : IsCutLaw → (old mid new : S) (a b : ℕ) (s now next : Receiving) (ns : List (List ℕ)) (rest rest' piece : List ℕ) → IsHearing old s rest mid a now → HasExchanged g mid [] piece new → IsFramed (rest ++ piece) ns rest' → HearsMore a now ns b next → IsHearing old s rest' new b next
   hearing_on law old mid new a b s now next ns rest rest' piece h k framed told = record {
     messages = h.messages ++ ns;
     heard = heard_on law old mid new h.messages ns rest rest' piece h.heard k framed;
     more = goes_on 0 a b s now next h.messages ns h.more told;
   }
 
-  pub hearing_ends : IsCutLaw → (old mid new : S) (a : ℕ) (s now next : Receiving) (ns : List (List ℕ)) (rest rest' piece : List ℕ) → IsHearing old s rest mid a now → HasCarried g mid [] piece new → IsFramed (rest ++ piece) ns rest' → TellEnd a now ns next → HasHeardEnd g old s new next
+  pub hearing_ends : IsCutLaw → (old mid new : S) (a : ℕ) (s now next : Receiving) (ns : List (List ℕ)) (rest rest' piece : List ℕ) → IsHearing old s rest mid a now → HasExchanged g mid [] piece new → IsFramed (rest ++ piece) ns rest' → TellEnd a now ns next → HasHeardEnd g old s new next
   hearing_ends law old mid new a s now next ns rest rest' piece h k framed told =
       (h.messages ++ ns, rest', heard_on law old mid new h.messages ns rest rest' piece h.heard k framed, end_on 0 a s now next h.messages ns h.more told)
 
-  pub hearing_refuses : IsCutLaw → (old mid new : S) (a : ℕ) (s now : Receiving) (ns : List (List ℕ)) (rest rest' piece : List ℕ) (fault : Fault) → IsHearing old s rest mid a now → HasCarried g mid [] piece new → IsFramed (rest ++ piece) ns rest' → TellRefusal a now ns fault → HasHeardRefusal g old s fault new
+  pub hearing_refuses : IsCutLaw → (old mid new : S) (a : ℕ) (s now : Receiving) (ns : List (List ℕ)) (rest rest' piece : List ℕ) (fault : Fault) → IsHearing old s rest mid a now → HasExchanged g mid [] piece new → IsFramed (rest ++ piece) ns rest' → TellRefusal a now ns fault → HasHeardRefusal g old s fault new
   hearing_refuses law old mid new a s now ns rest rest' piece fault h k framed told =
       (h.messages ++ ns, rest', heard_on law old mid new h.messages ns rest rest' piece h.heard k framed, refusal_on 0 a s now h.messages ns fault h.more told)
 
   -- The request was sent before.
-  asked_heard : (apex : Labels) (held : Option Zone) (old mid new : S) (messages : List (List ℕ)) (rest : List ℕ) → HasCarried g old (pending_length (request_octets apex held request_number)) [] mid → HasHeard g mid messages rest new → IsRequestAnswered g apex held old messages new
+  asked_heard : (apex : Labels) (held : Option Zone) (old mid new : S) (messages : List (List ℕ)) (rest : List ℕ) → HasExchanged g old (pending_length (request_octets apex held request_number)) [] mid → HasHeard g mid messages rest new → IsRequestAnswered g apex held old messages new
   asked_heard apex held old mid new messages rest h k = record {
     octets = k.octets;
     rest = rest;
@@ -123,13 +123,13 @@ module _ {S : Type 0} (g : Ghosts S) where
   }
 
   -- A zone was taken in by one who asked for it.
-  pub taken_in : IsTakenLaw → IsReadOnce → (apex : Labels) (held : Option Zone) (s new_s : Receiving) (old mid new : S) → s ≡ asking apex held → HasCarried g old (pending_length (request_octets s.apex s.held s.id)) [] mid → HasHeardEnd g mid s new new_s → (zone : Zone) × (new_s.held ≡ Some zone) × IsTakenIn g apex held old zone.records new
+  pub taken_in : IsTakenLaw → IsReadOnce → (apex : Labels) (held : Option Zone) (s new_s : Receiving) (old mid new : S) → s ≡ asking apex held → HasExchanged g old (pending_length (request_octets s.apex s.held s.id)) [] mid → HasHeardEnd g mid s new new_s → (zone : Zone) × (new_s.held ≡ Some zone) × IsTakenIn g apex held old zone.records new
   taken_in law once apex held s new_s old mid new is h k =
-      let sent = subst (λ (x : Receiving). HasCarried g old (pending_length (request_octets x.apex x.held x.id)) [] mid) is h in
+      let sent = subst (λ (x : Receiving). HasExchanged g old (pending_length (request_octets x.apex x.held x.id)) [] mid) is h in
       let told = taken_as law once apex held k.0 new_s (subst (λ (x : Receiving). TellEnd 0 x k.0 new_s) is k.3) in
       (told.zone, told.is, (k.0, asked_heard apex held old mid new k.0 k.1 sent k.2, told.told))
 
-  pub refused_in : (apex : Labels) (held : Option Zone) (s : Receiving) (old mid new : S) (fault : Fault) → s ≡ asking apex held → HasCarried g old (pending_length (request_octets s.apex s.held s.id)) [] mid → HasHeardRefusal g mid s fault new → IsAnswerRefused g apex held old fault new
+  pub refused_in : (apex : Labels) (held : Option Zone) (s : Receiving) (old mid new : S) (fault : Fault) → s ≡ asking apex held → HasExchanged g old (pending_length (request_octets s.apex s.held s.id)) [] mid → HasHeardRefusal g mid s fault new → IsAnswerRefused g apex held old fault new
   refused_in apex held s old mid new fault is h k =
-      let sent = subst (λ (x : Receiving). HasCarried g old (pending_length (request_octets x.apex x.held x.id)) [] mid) is h in
+      let sent = subst (λ (x : Receiving). HasExchanged g old (pending_length (request_octets x.apex x.held x.id)) [] mid) is h in
       (k.0, asked_heard apex held old mid new k.0 k.1 sent k.2, refused_as apex held k.0 fault (subst (λ (x : Receiving). TellRefusal 0 x k.0 fault) is k.3))

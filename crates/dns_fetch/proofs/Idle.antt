@@ -11,7 +11,7 @@ use Rattle.dns_secondary.specs.State.{State}
 use Rattle.dns_secondary.specs.Told.{Feeds}
 use Rattle.dns_secondary.specs.declared.fault.Progress.TheVariants.{More}
 use Rattle.dns_secondary.proofs.Runs.{one_reached}
-use Rattle.dns_fetch.specs.TakingIn.{AreIdle, HearsMore, HasIdled, IsIdleCount, IsIdle, IsTooMuch, NeverStalls, TellMore, idle_limit}
+use Rattle.dns_fetch.specs.TakingIn.{BringNoRecords, HearsMore, HasIdled, IsIdleCount, BringsNoRecord, IsTooMuch, NeverStalls, TellMore, idle_limit}
 
 -- More messages are fed.
 pub more_on : (s mid now : Receiving) (ms ns : List (List ℕ)) → TellMore s ms mid → TellMore mid ns now → TellMore s (ms ++ ns) now
@@ -33,7 +33,7 @@ goes_below a b s now [] lt h = subst (λ (x : ℕ). x < idle_limit) (sym h.0) lt
 goes_below a b s now (m ∷ ms) lt h = goes_below h.2 b h.0 now ms h.4 h.5
 
 -- The count is of the last messages, or of all of them and those before.
-has_idled : (a b : ℕ) (s now : Receiving) (ms : List (List ℕ)) → HearsMore a s ms b now → HasIdled s ms b now ⊎ ((b ≡ a + length ms) × AreIdle s ms now)
+has_idled : (a b : ℕ) (s now : Receiving) (ms : List (List ℕ)) → HearsMore a s ms b now → HasIdled s ms b now ⊎ ((b ≡ a + length ms) × BringNoRecords s ms now)
 has_idled a b s now [] h = inr (omega (arith, h.0), h.1)
 has_idled a b s now (m ∷ ms) h =
     let next = h.0 in
@@ -68,8 +68,8 @@ idled b s now ms h =
       | inr k ↦ record { before = []; idle = ms; parts = refl; many = (let e = k.0 in omega arith); from = s; more = refl; idles = k.1 }
     ]
 
-idle_on : (s mid now : Receiving) (ms ns : List (List ℕ)) → AreIdle s ms mid → AreIdle mid ns now → AreIdle s (ms ++ ns) now
-idle_on s mid now [] ns h k = subst (λ (x : Receiving). AreIdle x ns now) h k
+idle_on : (s mid now : Receiving) (ms ns : List (List ℕ)) → BringNoRecords s ms mid → BringNoRecords mid ns now → BringNoRecords s (ms ++ ns) now
+idle_on s mid now [] ns h k = subst (λ (x : Receiving). BringNoRecords x ns now) h k
 idle_on s mid now (m ∷ ms) ns h k = (h.0, h.1, h.2, idle_on h.0 mid now ms ns h.3 k)
 
 length_more : (ms : List (List ℕ)) (m : List ℕ) → length (ms ++ m ∷ []) ≡ length ms + 1
@@ -77,7 +77,7 @@ length_more [] m = refl
 length_more (x ∷ ms) m = let e = length_more ms m in omega arith
 
 -- One message more brings no record.
-pub idled_more : (count : ℕ) (s now next : Receiving) (ms : List (List ℕ)) (m : List ℕ) → HasIdled s ms count now → Feeds now m More next → IsIdle now m next → HasIdled s (ms ++ m ∷ []) (count + 1) next
+pub idled_more : (count : ℕ) (s now next : Receiving) (ms : List (List ℕ)) (m : List ℕ) → HasIdled s ms count now → Feeds now m More next → BringsNoRecord now m next → HasIdled s (ms ++ m ∷ []) (count + 1) next
 idled_more count s now next ms m h fed idle = record {
   before = h.before;
   idle = h.idle ++ m ∷ [];
@@ -116,7 +116,7 @@ no_cons x xs e = cc
 -- Of messages after which one ends the answer, fewer in a row bring no record than end it.
 module _ (once : IsReadOnce) (last : List ℕ) where
   begun : (a b : ℕ) (s now : Receiving) (ms : List (List ℕ)) → a < idle_limit → HearsMore a s ms b now → ((x : Receiving) → Feeds now last More x → ⊥)
-      → (idle later : List (List ℕ)) (end : Receiving) → ms ++ last ∷ [] ≡ idle ++ later → AreIdle s idle end → a + length idle < idle_limit
+      → (idle later : List (List ℕ)) (end : Receiving) → ms ++ last ∷ [] ≡ idle ++ later → BringNoRecords s idle end → a + length idle < idle_limit
   begun a b s now ms lt h stop [] later end parts idles = omega arith
   begun a b s now [] lt h stop (x ∷ idle) later end parts idles =
       let e = cons_is last x [] (idle ++ later) parts in
@@ -125,18 +125,18 @@ module _ (once : IsReadOnce) (last : List ℕ) where
       let e = cons_is m x (ms ++ last ∷ []) (idle ++ later) parts in
       let fed : Feeds s m More idles.0 = subst (λ (y : List ℕ). Feeds s y More idles.0) (sym e.0) idles.1 in
       let next : idles.0 ≡ h.0 = one_fed once s idles.0 h.0 m fed h.1 in
-      let moved : IsIdle s m idles.0 = subst (λ (y : List ℕ). IsIdle s y idles.0) (sym e.0) idles.2 in
-      let idle_here : IsIdle s m h.0 = subst (λ (y : Receiving). IsIdle s m y) next moved in
-      let rest : AreIdle h.0 idle end = subst (λ (y : Receiving). AreIdle y idle end) next idles.3 in
+      let moved : BringsNoRecord s m idles.0 = subst (λ (y : List ℕ). BringsNoRecord s y idles.0) (sym e.0) idles.2 in
+      let idle_here : BringsNoRecord s m h.0 = subst (λ (y : Receiving). BringsNoRecord s m y) next moved in
+      let rest : BringNoRecords h.0 idle end = subst (λ (y : Receiving). BringNoRecords y idle end) next idles.3 in
       elim h.3 [
         | inl counted ↦ (let more = begun h.2 b h.0 now ms h.4 h.5 stop idle later end e.1 rest in let is = counted.1 in omega arith)
         | inr counted ↦ absurd (counted.0 idle_here)
       ]
 
   within : (a b : ℕ) (s now : Receiving) (ms : List (List ℕ)) → a < idle_limit → HearsMore a s ms b now → ((x : Receiving) → Feeds now last More x → ⊥)
-      → (before idle later : List (List ℕ)) (from end : Receiving) → ms ++ last ∷ [] ≡ before ++ idle ++ later → TellMore s before from → AreIdle from idle end → length idle < idle_limit
+      → (before idle later : List (List ℕ)) (from end : Receiving) → ms ++ last ∷ [] ≡ before ++ idle ++ later → TellMore s before from → BringNoRecords from idle end → length idle < idle_limit
   within a b s now ms lt h stop [] idle later from end parts more idles =
-      let few = begun a b s now ms lt h stop idle later end parts (subst (λ (y : Receiving). AreIdle y idle end) more idles) in omega arith
+      let few = begun a b s now ms lt h stop idle later end parts (subst (λ (y : Receiving). BringNoRecords y idle end) more idles) in omega arith
   within a b s now [] lt h stop (x ∷ before) idle later from end parts more idles =
       let e = cons_is last x [] (before ++ idle ++ later) parts in
       absurd (stop more.0 (subst (λ (y : Receiving). Feeds y last More more.0) (sym h.1) (subst (λ (y : List ℕ). Feeds s y More more.0) (sym e.0) more.1)))

@@ -8,8 +8,8 @@ abbrev pub ConnectCall : Type 0 → Type 0
 ConnectCall S = SocketAddr × Option S
 
 -- Of the one call, to this address, this stream came.
-abbrev pub IsReached : {S : Type 0} → List (ConnectCall S) → SocketAddr → S → Type 0
-IsReached calls address stream = calls ≡ (address, Some stream) ∷ []
+abbrev pub IsStreamOf : {S : Type 0} → List (ConnectCall S) → SocketAddr → S → Type 0
+IsStreamOf calls address stream = calls ≡ (address, Some stream) ∷ []
 
 -- There was one call, to this address.
 abbrev pub IsOneCall : {S : Type 0} → List (ConnectCall S) → SocketAddr → Type 0

@@ -13,12 +13,16 @@ use Rattle.dns_zone.specs.Zone.{Zone}
 use Rattle.dns_masterfile.specs.Printed.{printed_zone}
 use Rattle.dns_network.specs.declared.stream.Stream.{Ghosts}
 use Rattle.dns_secondary.specs.declared.fault.Fault as answer
+use Rattle.dns_configuration.specs.Calls.{Calls}
 use Rattle.dns_configuration.specs.declared.files.File.{File}
 use Rattle.dns_configuration.specs.declared.files.Fault.{Fault}
 use Rattle.dns_configuration.specs.declared.files.Fault.TheVariants.{BadOrigin}
 use Rattle.dns_configuration.specs.Faults.{fault_text, line, loaded}
-use Rattle.dns_fetch.specs.FetchFaults.{fetch_text}
+use Rattle.dns_fetch.specs.Connecting.{ConnectCall, ConnectsOnce, IsStreamOf}
+use Rattle.dns_fetch.specs.FetchFaults.{ComesOfAsking, fetch_text}
 use Rattle.dns_fetch.specs.TakingIn.{IsRefusedFrom, IsTakenFrom}
+use Rattle.dns_fetch.specs.declared.command.FetchRequest.{FetchRequest}
+use Rattle.dns_fetch.specs.declared.fetch_faults.FetchFault.{FetchFault}
 use Rattle.dns_fetch.specs.declared.fetch_faults.FetchFault.TheVariants.{BadAddress, Refused}
 
 -- The version that a file holds, if there is a file.
@@ -80,3 +84,37 @@ pub record FetchEnds {S : Type 0} (g : Ghosts S) (reached : SocketAddr → S →
       ⊎ ((fault : answer.Fault) × IsFetchRefused g reached server origin since fault
       × (text ≡ fetch_text server (Refused fault) explain)))
   pub others : status ≤ 1 ⊎ (status ≡ 3)
+
+module _ {S : Type 0} (g : Ghosts S) (calls : List (ConnectCall S)) (address : SocketAddr) (apex : Labels)
+    (held : Option Zone) where
+  -- A zone was taken in on the stream that came of the one call, to this address.
+  abbrev pub IsTakenAt : Option Zone → Type 0
+  IsTakenAt taken =
+      (zone : Zone) × (taken ≡ Some zone)
+      × IsTakenFrom g (IsStreamOf calls address) apex held zone.records
+
+  -- None was, for this fault, which comes of asking there.
+  abbrev pub IsNotTakenAt : FetchFault → Type 0
+  IsNotTakenAt fault = ComesOfAsking fault (IsRefusedFrom g (IsStreamOf calls address) apex held)
+
+-- What streams of a kind say of themselves.
+abbrev pub StreamGhosts : Type 0 → Type 1
+StreamGhosts S = Ghosts S
+
+-- So a run of `fetch` ends, where these are the connections that were asked for before and after it: none by
+-- it, or the server's, once.
+abbrev pub FetchingEnds : {S : Type 0} → Ghosts S → Option (List (ConnectCall S))
+    → Option (List (ConnectCall S)) → List ℕ → List ℕ → Option File → Bool → Option (List ℕ)
+    → Option (List ℕ) → Option (List ℕ) → Option (List ℕ) → ℕ → Type 0
+FetchingEnds g before after server origin since explain out out_after err err_after status =
+    Calls before after
+    (λ calls. ConnectsOnce server calls
+    × FetchEnds g (IsStreamOf calls) server origin since explain out out_after err err_after status)
+
+-- The same by what is asked for.
+abbrev pub RequestEnds : {S : Type 0} → Ghosts S → Option (List (ConnectCall S))
+    → Option (List (ConnectCall S)) → FetchRequest → Option (List ℕ) → Option (List ℕ) → Option (List ℕ)
+    → Option (List ℕ) → ℕ → Type 0
+RequestEnds g before after asked out out_after err err_after status =
+    FetchingEnds g before after asked.server.now asked.origin.now (option_copied asked.since) asked.explain
+    out out_after err err_after status

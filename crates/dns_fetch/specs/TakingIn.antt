@@ -49,16 +49,17 @@ TellMore s (message ∷ rest) now = (next : Receiving) × Feeds s message More n
 
 -- A message that was fed brings no record: it has none in its answer section; or no changes are told, and as
 -- many records have come as before it, so that each of its records had come (RFC 5936 2.2).
-abbrev pub IsIdle : Receiving → List ℕ → Receiving → Type 0
-IsIdle s octets next =
+abbrev pub BringsNoRecord : Receiving → List ℕ → Receiving → Type 0
+BringsNoRecord s octets next =
     ((message : Message) × Reads octets message × (message.answers ≡ []))
     ⊎ ((is_incremental next.state ≡ false) × (received_count next.state ≡ received_count s.state))
 
 -- Messages are fed, none of which brings a record, and of each of which it is reported that more is to come.
-abbrev pub AreIdle : Receiving → List (List ℕ) → Receiving → Type 0
-AreIdle s [] now = now ≡ s
-AreIdle s (message ∷ rest) now =
-    (next : Receiving) × Feeds s message More next × IsIdle s message next × AreIdle next rest now
+abbrev pub BringNoRecords : Receiving → List (List ℕ) → Receiving → Type 0
+BringNoRecords s [] now = now ≡ s
+BringNoRecords s (message ∷ rest) now =
+    (next : Receiving) × Feeds s message More next × BringsNoRecord s message next
+    × BringNoRecords next rest now
 
 -- Messages are fed, of each of which it is reported that more is to come, and the last `count` of them bring
 -- no record.
@@ -69,7 +70,7 @@ pub record HasIdled (s : Receiving) (messages : List (List ℕ)) (count : ℕ) (
   pub many : length idle ≡ count
   pub from : Receiving
   pub more : TellMore s before from
-  pub idles : AreIdle from idle now
+  pub idles : BringNoRecords from idle now
 
 -- How many messages in a row that bring no record end an answer.
 abbrev pub idle_limit : ℕ
@@ -133,7 +134,7 @@ pub record IsRefusedIn (apex : Labels) (held : Option Zone) (messages : List (Li
 
 module _ {S : Type 0} (g : Ghosts S) where
   -- Octets were sent on a stream, and octets were received, if it is faithful.
-  pub record HasCarried (old : S) (out came : List ℕ) (new : S) : Type 0 where
+  pub record HasExchanged (old : S) (out came : List ℕ) (new : S) : Type 0 where
     pub faithful : g.is_faithful old → g.is_faithful new
     pub sent : g.is_faithful old → g.sent new ≡ g.sent old ++ out
     pub received : g.is_faithful old → g.received new ≡ g.received old ++ came
@@ -145,7 +146,7 @@ module _ {S : Type 0} (g : Ghosts S) where
     pub octets : List ℕ
     pub rest : List ℕ
     pub framed : IsFramed octets messages rest
-    pub carried : HasCarried old (pending_length (request_octets apex held request_number)) octets new
+    pub carried : HasExchanged old (pending_length (request_octets apex held request_number)) octets new
 
   -- A zone was taken in: the messages that were received tell it.
   abbrev pub IsTakenIn : Labels → Option Zone → S → List Record → S → Type 0
@@ -170,7 +171,8 @@ module _ {S : Type 0} (g : Ghosts S) where
 -- How many messages in a row have brought no record, where `count` had and one more is fed.
 abbrev pub IsIdleCount : Receiving → List ℕ → Receiving → ℕ → ℕ → Type 0
 IsIdleCount s message next count after =
-    (IsIdle s message next × (after ≡ count + 1)) ⊎ ((IsIdle s message next → ⊥) × (after ≡ 0))
+    (BringsNoRecord s message next × (after ≡ count + 1))
+    ⊎ ((BringsNoRecord s message next → ⊥) × (after ≡ 0))
 
 -- Messages are fed, of each of which it is reported that more is to come, after `count` in a row that brought
 -- no record: with them it is `after`, and never so many that the answer is given up.
@@ -205,8 +207,8 @@ pub record TellRefusal (count : ℕ) (s : Receiving) (messages : List (List ℕ)
   pub now : Receiving
   pub more : HearsMore count s first idle now
   pub refused : IsGivenUp now message fault
-      ⊎ ((fault ≡ BadSequence) × (next : Receiving) × Feeds now message More next × IsIdle now message next
-      × (idle + 1 ≡ idle_limit))
+      ⊎ ((fault ≡ BadSequence) × (next : Receiving) × Feeds now message More next
+      × BringsNoRecord now message next × (idle + 1 ≡ idle_limit))
 
 -- What these tell.
 abbrev pub Tells : ℕ → Receiving → List (List ℕ) → Bool → ℕ → Receiving → Type 0
@@ -218,7 +220,7 @@ module _ {S : Type 0} (g : Ghosts S) where
   pub record HasHeard (old : S) (messages : List (List ℕ)) (rest : List ℕ) (new : S) : Type 0 where
     pub octets : List ℕ
     pub framed : IsFramed octets messages rest
-    pub carried : HasCarried g old [] octets new
+    pub carried : HasExchanged g old [] octets new
 
   -- The messages lead to the answer's end.
   abbrev pub HasHeardEnd : S → Receiving → S → Receiving → Type 0

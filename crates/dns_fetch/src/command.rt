@@ -8,10 +8,8 @@ ghost use Rattle.dns_masterfile.specs.Printed.{printed_zone};
 ghost use Rattle.dns_configuration.specs.declared.files.File.{File as StatedFile};
 ghost use Rattle.dns_configuration.specs.Calls.{Calls};
 ghost use Rattle.dns_configuration.specs.Faults.{IsTold, is_memory, loaded};
-ghost use Rattle.dns_fetch.specs.Connecting.{ConnectsOnce, IsOneCall, IsReached};
-ghost use Rattle.dns_fetch.specs.Fetch.{FetchEnds, IsHeldIn};
-ghost use Rattle.dns_fetch.specs.FetchFaults.{ComesOfAsking};
-ghost use Rattle.dns_fetch.specs.TakingIn.{IsRefusedFrom, IsTakenFrom};
+ghost use Rattle.dns_fetch.specs.Connecting.{IsOneCall};
+ghost use Rattle.dns_fetch.specs.Fetch.{IsHeldIn, IsNotTakenAt, IsTakenAt, RequestEnds};
 
 use crate::fetch_faults::{FetchFault, tell_fetch};
 use crate::servers::{Servers, WaitingStream};
@@ -73,9 +71,8 @@ fn take_from<S: WaitingStream + Drop, V: Servers<S>, I: ZoneIndex, P: Watch>(
 ) -> Result<Secondary<I>, FetchFault>
     ensures { Calls (V.calls servers.old) (V.calls servers.new) (λ calls. IsOneCall calls address
         × MatchResult result
-        (λ s. (zone : Stated) × (s.held ≡ Some zone)
-        × IsTakenFrom S.Stream (IsReached calls address) apex held zone.records)
-        (λ e. ComesOfAsking e (IsRefusedFrom S.Stream (IsReached calls address) apex held))) }
+        (λ s. IsTakenAt S.Stream calls address apex held s.held)
+        (IsNotTakenAt S.Stream calls address apex held)) }
 {
     let Some(mut stream) = servers.connect(address) else {
         drop((apex, held));
@@ -122,11 +119,9 @@ fn fetched<S: WaitingStream + Drop, V: Servers<S>, I: ZoneIndex, P: Watch, W: Wr
     out: &mut W,
     err: &mut E,
 ) -> io::Result<u8>
-    ensures { Calls (V.calls servers.old) (V.calls servers.new)
-        (λ calls. ConnectsOnce asked.entry.server.now calls
-        × FetchEnds S.Stream (IsReached calls) asked.entry.server.now asked.entry.origin.now
-        (option_copied asked.entry.since) asked.entry.explain (W.contents out.old) (W.contents out.new)
-        (E.contents err.old) (E.contents err.new) (result_unwrap_or result FAILED)) }
+    ensures { RequestEnds S.Stream (V.calls servers.old) (V.calls servers.new) asked.entry
+        (W.contents out.old) (W.contents out.new) (E.contents err.old) (E.contents err.new)
+        (result_unwrap_or result FAILED) }
 {
     let FetchRequest {
         server,
@@ -170,11 +165,8 @@ pub fn fetch<S: WaitingStream + Drop, V: Servers<S>, I: ZoneIndex, P: Watch, W: 
     out: &mut W,
     err: &mut E,
 ) -> u8
-    ensures { Calls (V.calls servers.old) (V.calls servers.new)
-        (λ calls. ConnectsOnce asked.entry.server.now calls
-        × FetchEnds S.Stream (IsReached calls) asked.entry.server.now asked.entry.origin.now
-        (option_copied asked.entry.since) asked.entry.explain (W.contents out.old) (W.contents out.new)
-        (E.contents err.old) (E.contents err.new) result) }
+    ensures { RequestEnds S.Stream (V.calls servers.old) (V.calls servers.new) asked.entry
+        (W.contents out.old) (W.contents out.new) (E.contents err.old) (E.contents err.new) result }
 {
     fetched::<S, V, I, P, W, E>(heap, servers, asked, watch, out, err).unwrap_or(FAILED)
 }

@@ -11,7 +11,7 @@ ghost use Rattle.dns_secondary.specs.Request.{request_octets};
 ghost use Rattle.dns_secondary.specs.Told.{Feeds};
 ghost use Rattle.dns_secondary.specs.declared.fault.Progress.TheVariants.{More};
 ghost use Rattle.dns_fetch.specs.FetchFaults.{ComesOfAsking};
-ghost use Rattle.dns_fetch.specs.TakingIn.{HasCarried, HasHeardEnd, HasHeardRefusal, IsAnswerRefused};
+ghost use Rattle.dns_fetch.specs.TakingIn.{HasExchanged, HasHeardEnd, HasHeardRefusal, IsAnswerRefused};
 ghost use Rattle.dns_fetch.specs.TakingIn.{IsIdleCount, IsTakenIn, IsTooMuch, Tells, TellRefusal, idle_limit};
 
 use crate::fetch_faults::FetchFault;
@@ -41,7 +41,7 @@ const IDLE_LIMIT: u16 = 4096;
 
 /// Writes all that is left to write, and waits where it must.
 fn write_all<S: WaitingStream>(stream: &mut S, outbox: &mut Outbox) -> Result<(), FetchFault>
-    ensures written { IfOk result (λ _. HasCarried S.Stream stream.old outbox.old [] stream.new) }
+    ensures written { IfOk result (λ _. HasExchanged S.Stream stream.old outbox.old [] stream.new) }
     ensures others { IfErr result (λ e. ComesOfAsking e (λ _. ⊥)) }
 {
     'writes: for _ in 0..u64::MAX {
@@ -67,7 +67,7 @@ fn ask<S: WaitingStream, I: ZoneIndex>(
     stream: &mut S,
     secondary: &Secondary<I>,
 ) -> Result<(), FetchFault>
-    ensures asked { IfOk result (λ _. HasCarried S.Stream stream.old
+    ensures asked { IfOk result (λ _. HasExchanged S.Stream stream.old
         (pending_length (request_octets secondary.now.apex secondary.now.held secondary.now.id)) []
         stream.new) }
     ensures others { IfErr result (λ e. ComesOfAsking e (λ _. ⊥)) }
@@ -84,7 +84,8 @@ fn ask<S: WaitingStream, I: ZoneIndex>(
 /// Reads octets as they come, and waits where none are there. Answers how many.
 fn read_some<S: WaitingStream>(stream: &mut S, into: &mut [u8]) -> Result<usize, FetchFault>
     ensures few { IfOk result (λ count. count ≤ length into.new) }
-    ensures came { IfOk result (λ count. HasCarried S.Stream stream.old [] (take count into.new) stream.new) }
+    ensures came { IfOk result
+        (λ count. HasExchanged S.Stream stream.old [] (take count into.new) stream.new) }
     ensures others { IfErr result (λ e. ComesOfAsking e (λ _. ⊥)) }
 {
     'reads: for _ in 0..u64::MAX {

@@ -35,14 +35,14 @@ use Rattle.dns_primary.proofs.Zonewise.{tested, all_found, all_set, pair_over}
 use Rattle.dns_primary.proofs.Preserved.{StandsIn, admission_stands}
 
 -- few updates are staged of a zone, and where it isn't closed no more than so many replies wait
-record Fits (n : ℕ) (z : ZoneState) : Type 0 where
-  few : length z.staged ≤ 32
-  wait : (z.closed ≡ true) ⊎ (length z.staged ≤ n)
+pub record Fits (n : ℕ) (z : ZoneState) : Type 0 where
+  pub few : length z.staged ≤ 32
+  pub wait : (z.closed ≡ true) ⊎ (length z.staged ≤ n)
 
-record AllFit (m : Machine) : Type 0 where
-  few : length m.waiting ≤ 32
-  each : AllByRecursion (Fits (length m.waiting)) m.zones
-  opened : AllByRecursion (IsForOpen m.zones) m.waiting
+pub record AllFit (m : Machine) : Type 0 where
+  pub few : length m.waiting ≤ 32
+  pub each : AllByRecursion (Fits (length m.waiting)) m.zones
+  pub opened : AllByRecursion (IsForOpen m.zones) m.waiting
 
 fits_more : (n k : ℕ) (z : ZoneState) → n ≤ k → Fits n z → Fits k z
 fits_more n k z le h = record { few = h.few; wait = ⊎_elim (λ shut. inl shut) (λ at_most. inr (omega (arith, at_most, le))) h.wait }
@@ -51,7 +51,7 @@ all_more : (n k : ℕ) (zones : List ZoneState) → n ≤ k → AllByRecursion (
 all_more n k [] le h = tt
 all_more n k (z ∷ zones) le h = (fits_more n k z le h.0, all_more n k zones le h.1)
 
-none_fit : (n : ℕ) (z : ZoneState) → z.staged ≡ [] → Fits n z
+pub none_fit : (n : ℕ) (z : ZoneState) → z.staged ≡ [] → Fits n z
 none_fit n z none = (let len : length z.staged ≡ 0 = ap (λ (ms : List Made). length ms) none in record { few = omega (arith, len); wait = inr (omega (arith, len)) })
 
 -- a flush
@@ -287,7 +287,7 @@ all_recovered least most m event index [] (w ∷ new) r = absurd r
 all_recovered least most m event index (z ∷ old) [] r = absurd r
 all_recovered least most m event index (z ∷ old) (w ∷ new) r = (none_fit 0 w (r.0).staged, all_recovered least most m event (suc index) old new r.1)
 
-nothing_fits : (m : Machine) → m.waiting ≡ [] → AllByRecursion (Fits 0) m.zones → AllFit m
+pub nothing_fits : (m : Machine) → m.waiting ≡ [] → AllByRecursion (Fits 0) m.zones → AllFit m
 nothing_fits m none each = record {
   few = subst (λ (ws : List Waits). length ws ≤ 32) (sym none) (omega arith);
   each = subst (λ (ws : List Waits). AllByRecursion (Fits (length ws)) m.zones) (sym none) each;
@@ -308,7 +308,7 @@ configured_fits old new c h =
       opened = subst (λ (ws : List Waits). AllByRecursion (IsForOpen new.zones) ws) (sym (same ∙ c.waiting)) tt;
     }
 
-moment_fits : (old : Machine) (t : Moment) → Happens old t → AllFit old → AllFit (machine_after t)
+pub moment_fits : (old : Machine) (t : Moment) → Happens old t → AllFit old → AllFit (machine_after t)
 moment_fits old (Took event fails effects new) g h = step_fits fails old event effects new g h
 moment_fits old (Configured new) g h = configured_fits old new g h
 moment_fits old (Stopped event tries new) g h = nothing_fits new g.waiting (all_recovered 1 (suc tries) old event 0 old.zones new.zones g.zones)
@@ -321,7 +321,7 @@ few_of : (n : ℕ) (zones : List ZoneState) → AllByRecursion (Fits n) zones �
 few_of n [] h = tt
 few_of n (z ∷ zones) h = ((h.0).few, few_of n zones h.1)
 
-bounded : (m : Machine) → AllFit m → IsBounded m
+pub bounded : (m : Machine) → AllFit m → IsBounded m
 bounded m h = record { waiting = h.few; staged = few_of (length m.waiting) m.zones h.each; opened = h.opened }
 
 -- where a run begins

@@ -95,12 +95,12 @@ all_with Q (a ∷ old) (b ∷ mid) [] p q = absurd q
 all_with Q (a ∷ old) (b ∷ mid) (c ∷ new) p q = (same_with Q a b c p.0 q.0, all_with Q old mid new p.1 q.1)
 
 -- a zone that is admitted is named, and may be updated from there
-record IsAllowed (zones : List ZoneState) (a : Asked) (index : ℕ) (z : ZoneState) : Type 0 where
-  stands : slice_get zones index ≡ Some z
-  named : names_eq z.setting.shape.apex a.zone.name ≡ true
-  allowed : z.setting.may_update a.address ≡ true
+pub record IsAllowed (zones : List ZoneState) (a : Asked) (index : ℕ) (z : ZoneState) : Type 0 where
+  pub stands : slice_get zones index ≡ Some z
+  pub named : names_eq z.setting.shape.apex a.zone.name ≡ true
+  pub allowed : z.setting.may_update a.address ≡ true
 
-abbrev AllowedIn : List ZoneState → Asked → Admission → Type 0
+abbrev pub AllowedIn : List ZoneState → Asked → Admission → Type 0
 AllowedIn zones a (Rejects rcode) = Unit {0}
 AllowedIn zones a (Admits index z) = IsAllowed zones a index z
 
@@ -134,7 +134,7 @@ at_allowed : (zones : List ZoneState) (a : Asked) (o : Option ℕ) → NamedAt a
 at_allowed zones a None n = tt
 at_allowed zones a (Some index) n = in_allowed zones a index (slice_get zones index) refl n
 
-admission_allowed : (zones : List ZoneState) (a : Asked) → AllowedIn zones a (admission zones a)
+pub admission_allowed : (zones : List ZoneState) (a : Asked) → AllowedIn zones a (admission zones a)
 admission_allowed zones a =
     tested (AllowedIn zones a) (not (a.zone.qtype == type_soa)) (Rejects rcode_formerr)
     (if not (a.zone.qclass == class_in) then Rejects rcode_notauth else admission_at zones a.address (zone_position a.zone.name zones))

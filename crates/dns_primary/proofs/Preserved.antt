@@ -110,7 +110,7 @@ pub same_moved : (fails : Bool) (room : ℕ) (z w : ZoneState) → IsMovedUnless
 same_moved fails room z w (inl h) = same_zone z w h.2
 same_moved fails room z w (inr h) = subst (λ (x : ZoneState). IsSameBut z x) (sym (h.1).2) (same_rebased fails (h.1).0 z)
 
-same_lasts : (z w : ZoneState) → IsSameBut z w → Lasts z w
+pub same_lasts : (z w : ZoneState) → IsSameBut z w → Lasts z w
 same_lasts z w s = record { shape = ap (λ (x : Setting). x.shape) s.setting; loaded = s.loaded; more = []; shown = s.shown ∙ sym (append-nil z.shown) }
 
 pub same_updates : (z w : ZoneState) → IsSameBut z w → Same z w

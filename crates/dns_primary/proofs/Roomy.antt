@@ -32,6 +32,7 @@ use Rattle.dns_primary.proofs.Zonewise.{tested, pair_same, pair_on, pair_set, pa
 use Rattle.dns_primary.proofs.Preserved.{StandsIn, admission_stands}
 use Rattle.dns_primary.proofs.Moved.{settled_flushed, open_staged, zone_settled}
 use Rattle.dns_primary.proofs.Follows.{Follows, StandsStill, Goes, begun_follows, admission_goes}
+use Rattle.dns_primary.proofs.Sound.{set_stands}
 
 -- ---- what is left after a flush is what was left
 abbrev number_of : ZoneState → ℕ
@@ -182,11 +183,6 @@ moved_room false room z new rest le opened (inr (before, (base, next, is))) =
     (subst (λ (b : ℕ). room ≤ sectors_left (moved_to b k)) (sym base_is) left)
 
 -- ---- an update that has room by the rules isn't refused for want of it
-set_stands : (zones : List ZoneState) (index : ℕ) (z w : ZoneState) → slice_get zones index ≡ Some z → slice_get (slice_set zones index w) index ≡ Some w
-set_stands [] index z w e = absurd cc
-set_stands (a ∷ zones) zero z w e = refl
-set_stands (a ∷ zones) (suc index) z w e = set_stands zones index z w e
-
 checkpoint_room : (old : Machine) (index room : ℕ) (fails : List Bool) (moving : Bool) (mid : Machine) (z w : ZoneState) → IsCheckpoint index room old fails moving mid
     → slice_get old.zones index ≡ Some z → slice_get mid.zones index ≡ Some w → room ≤ z.setting.shape.journal → w.closed ≡ false → room ≤ sectors_left (kept_of w)
 checkpoint_room old index room fails moving mid z w made there here le opened =

@@ -116,7 +116,7 @@ all_flushed [] (z ∷ zones) e = absurd (omega (arith, e))
 all_flushed (f ∷ fails) [] e = absurd (omega (arith, e))
 all_flushed (f ∷ fails) (z ∷ zones) e = (zone_flushed f z, all_flushed fails zones (omega (arith, e)))
 
-all_released : (zones after : List ZoneState) (ws : List Waits) → Each2 IsFlushed zones after → AllByRecursion (IsPlaced zones) ws → AllByRecursion (IsTrueIn after) (map (released after) ws)
+pub all_released : (zones after : List ZoneState) (ws : List Waits) → Each2 IsFlushed zones after → AllByRecursion (IsPlaced zones) ws → AllByRecursion (IsTrueIn after) (map (released after) ws)
 all_released zones after [] each p = tt
 all_released zones after (w ∷ ws) each p =
     let found = pair_found IsFlushed zones after w.zone (p.0).zone each (p.0).stands in
@@ -145,7 +145,7 @@ wait_preserves m a index rcode z s e = record {
   good = tt;
 }
 
-set_stands : (zones : List ZoneState) (index : ℕ) (z w : ZoneState) → slice_get zones index ≡ Some z → slice_get (slice_set zones index w) index ≡ Some w
+pub set_stands : (zones : List ZoneState) (index : ℕ) (z w : ZoneState) → slice_get zones index ≡ Some z → slice_get (slice_set zones index w) index ≡ Some w
 set_stands [] index z w e = absurd cc
 set_stands (a ∷ zones) zero z w e = refl
 set_stands (a ∷ zones) (suc index) z w e = set_stands zones index z w e

@@ -1,6 +1,6 @@
 -- Transfers along runs of the machine: what opens one, and what goes out by it, whatever else happens
 -- meanwhile.
-use Rattle.std.specs.Prelude.{◌≡◌, ◌⊎◌, ℕ, true, List, [], ◌∷◌, Option, Some, None}
+use Rattle.std.specs.Prelude.{◌≡◌, ◌⊎◌, ℕ, Bool, true, List, [], ◌∷◌, Option, Some, None}
 use Rattle.dns_wire.specs.Message.{Question, Message}
 use Rattle.dns_request.specs.declared.request.Transport.TheVariants.{Tcp}
 use Rattle.dns_answer.specs.Answer.{Transfer, handled}
@@ -11,7 +11,7 @@ use Rattle.dns_primary.specs.declared.event.Noted.TheVariants.{OutOfMemory}
 use Rattle.dns_primary.specs.Machine.{ZoneState, Machine, shown_zones, peer_at, sending_at}
 use Rattle.dns_primary.specs.Flush.{Replied}
 use Rattle.dns_primary.specs.Transfer.{open_still, transfer_version, zone_named}
-use Rattle.dns_primary.specs.Step.{Event, Effects, Arrives, Pump, Closed}
+use Rattle.dns_primary.specs.Step.{Event, Effects, Arrives, Pump, Closed, Step}
 use Rattle.dns_primary.specs.Runs.{Moment, Took, Stopped, Configured}
 
 -- A request that came on the connection opens a transfer of the version that is shown then, for a peer that
@@ -28,6 +28,14 @@ pub record OpensOn (old : Machine) (number : ℕ) (event : Event) (s : Sending) 
   pub named : zone_named question.name old.zones ≡ Some zone
   pub allowed : zone.setting.may_transfer peer.address ≡ true
   pub opened : IsTransferOpened Tcp octets message question (transfer_version zone) s
+
+-- If a transfer is open on the connection after an event, and none was before, the event opened it.
+abbrev pub OpensByEvent : ℕ → List Bool → Machine → Event → Effects → Machine → Sending → Type 0
+OpensByEvent number fails old event effects new s =
+    sending_at number old.connections ≡ None
+    → sending_at number new.connections ≡ Some s
+    → Step fails old event effects new
+    → OpensOn old number event s
 
 -- What a pump of a transfer gives: the next message, of which the one that leaves no record ends it; or
 -- nothing where memory is refused, and the transfer stays as it is.

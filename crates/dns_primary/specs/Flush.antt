@@ -36,9 +36,12 @@ abbrev pub is_closed_in : Option ZoneState → Bool
 is_closed_in None = true
 is_closed_in (Some z) = z.closed
 
--- A reply that waited goes out, as SERVFAIL where its zone is closed.
+-- A reply that waited goes out, as SERVFAIL if its zone is closed.
+abbrev pub released_code : List ZoneState → Waits → ℕ
+released_code zones w = if is_closed_in (slice_get zones w.zone) then rcode_servfail else w.rcode
+
 abbrev pub released : List ZoneState → Waits → Sent
-released zones w = Answered w (if is_closed_in (slice_get zones w.zone) then rcode_servfail else w.rcode)
+released zones w = Answered w (released_code zones w)
 
 -- Nothing waits then.
 abbrev pub flushed : List Bool → Machine → Machine

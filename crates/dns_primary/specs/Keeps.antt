@@ -1,5 +1,5 @@
 -- What a primary keeps of the machine, and how it reports effects.
-use Rattle.std.specs.Prelude.{◌≡◌, ◌⊎◌, ◌++◌, ◌↔◌, ℕ, List, [], ◌∷◌, map, length}
+use Rattle.std.specs.Prelude.{◌≡◌, ◌⊎◌, ◌++◌, ◌↔◌, ℕ, Bool, List, [], ◌∷◌, map, length}
 use Rattle.std.specs.Prelude.{Option, Some, None, Result, Ok}
 use Rattle.std.specs.Prelude.{Err, IsTrue, slice_get, ◌==◌, if◌then◌else◌}
 use Rattle.slab.specs.Slab.{Slab, get, slab_len}
@@ -14,6 +14,7 @@ use Rattle.dns_store.specs.Versions.{Kept}
 use Rattle.dns_transfer.specs.Session.{Sending}
 use Rattle.dns_versions.specs.declared.zone_versions.ZoneVersions.{ZoneVersions}
 use Rattle.dns_versions.specs.Each.{Each2, Each3}
+use Rattle.dns_versions.specs.Flush.{FailedWhere, first_true}
 use Rattle.dns_versions.specs.Held.{HasVersions}
 use Rattle.dns_primary.specs.declared.event.Waiting.{Waiting}
 use Rattle.dns_primary.specs.declared.event.HeaderTo.{HeaderTo}
@@ -27,7 +28,7 @@ use Rattle.dns_primary.specs.declared.primary.ZoneSpec.{ZoneSpec}
 use Rattle.dns_primary.specs.To.{octets_in}
 use Rattle.dns_primary.specs.declared.transfers.OpenTransfer.{OpenTransfer}
 use Rattle.dns_primary.specs.Machine.{Waits, Machine, ZoneState, kept_of, peer_at, sending_at}
-use Rattle.dns_primary.specs.Flush.{all_out, answered_of}
+use Rattle.dns_primary.specs.Flush.{Sent, all_out, answered_of, flush_sends, flushed, goes_out}
 use Rattle.dns_wire.specs.declared.codes.Rcode.{Rcode}
 use Rattle.dns_request.specs.Codes.{rcode_notauth}
 use Rattle.dns_primary.specs.Update.{Admission, Rejects, Admits}
@@ -79,6 +80,26 @@ pub record IsKept {I S : Type 0} {i : zone_index.Ghosts I} {s : store.Ghosts S} 
 abbrev pub header_out : HeaderTo → To × List ℕ
 header_out h = (h.waited.to, h.octets)
 
+-- These are the headers of replies that waited, in order.
+abbrev pub AreTold : List HeaderTo → List Waits → Type 0
+AreTold headers waits = Each2 (λ h w. IsWaiting h.waited w) headers waits
+
+-- To the headers that go out this one is added, unless it goes nowhere.
+abbrev pub GoesOutAfter : List HeaderTo → List HeaderTo → Sent → Type 0
+GoesOutAfter old new sent = map header_out new ≡ map header_out old ++ goes_out sent
+
+-- All zones were flushed, as far as their devices let them, and the replies that waited for that are these;
+-- the first zone whose device failed is told.
+abbrev pub AreAllFlushed : {I S : Type 0} → (S → Kept → Type 0) → (S → ℕ) → Machine → List Zone
+    → List (ZoneVersions I S) → List (ZoneVersions I S) → List HeaderTo → Option ℕ → Type 0
+AreAllFlushed keeps failed m zones olds news headers first =
+    (fails : List Bool) × (length fails ≡ length m.zones)
+    × FailedWhere (λ b. failed b.store) fails olds news
+    × HaveVersions keeps zones news (flushed fails m).zones
+    × (map header_out headers ≡ all_out (flush_sends fails m))
+    × AreTold headers (answered_of (flush_sends fails m))
+    × (first ≡ first_true fails)
+
 abbrev pub reply_out : Option Reply → List (To × List ℕ)
 reply_out None = []
 reply_out (Some r) = (r.to, octets_in r.octets) ∷ []
@@ -87,7 +108,7 @@ reply_out (Some r) = (r.to, octets_in r.octets) ∷ []
 -- what came, if there is one.
 pub record AreEffects (stated : machine.Effects) (effects : Effects) : Type 0 where
   pub sent : all_out stated.sent ≡ map header_out effects.headers.items ++ reply_out effects.message
-  pub told : Each2 (λ h w. IsWaiting h.waited w) effects.headers.items (answered_of stated.sent)
+  pub told : AreTold effects.headers.items (answered_of stated.sent)
   pub accepted : stated.accepted ≡ effects.accepted
   pub noted : stated.noted ≡ effects.noted
 

@@ -1,5 +1,5 @@
 -- How the devices of all zones are opened, and what a primary that is opened keeps.
-use Rattle.std.specs.Prelude.{◌≡◌, ◌⊎◌, ◌+◌, ℕ, zero, suc, List, [], ◌∷◌, length, map}
+use Rattle.std.specs.Prelude.{◌≡◌, ◌⊎◌, ◌+◌, ℕ, zero, suc, List, [], ◌∷◌, length, map, Result, MatchResult}
 use Rattle.dns_names.specs.Name.{Labels}
 use Rattle.dns_zone.specs.Zone.{Zone}
 use Rattle.dns_sectors.specs.Device.{Content, LeavesOnly}
@@ -23,11 +23,12 @@ use Rattle.dns_store.specs.declared.root.OpenError.{OpenError}
 use Rattle.dns_store.specs.declared.root.OpenError.TheVariants.{Device, OutOfMemory}
 use Rattle.dns_versions.specs.declared.zone_versions.ZoneVersions.{ZoneVersions}
 use Rattle.dns_versions.specs.Held.{HasVersions}
+use Rattle.dns_primary.specs.declared.open.NotOpened.{NotOpened}
 use Rattle.dns_primary.specs.declared.primary.ZoneSpec.{ZoneSpec}
 use Rattle.dns_primary.specs.Machine.{ZoneState, Machine}
-use Rattle.dns_primary.specs.Keeps.{IsSet}
+use Rattle.dns_primary.specs.Keeps.{IsKept, IsSet}
 use Rattle.dns_primary.specs.Step.{Event}
-use Rattle.dns_primary.specs.Stop.{IsMaking, OpensAsRecovered}
+use Rattle.dns_primary.specs.Stop.{IsConfigured, IsMaking, IsStopped, OpensAsRecovered}
 
 -- A zone's name, and the sizes of its store.
 abbrev pub shape_of : Labels → ZoneSpec → Shape
@@ -216,3 +217,59 @@ abbrev pub IsRecoveryStopped : ℕ → OpenError → ℕ → List ZoneState → 
 IsRecoveryStopped tries error index [] = error ≡ OutOfMemory
 IsRecoveryStopped tries error zero (z ∷ zones) = store.IsNotReopened (z.openings + tries) error
 IsRecoveryStopped tries error (suc n) (z ∷ zones) = IsRecoveryStopped tries error n zones
+
+-- The primary is the machine, which stopped within the event so many tries ago, and recovered.
+abbrev pub IsRecoveredBy : {I S : Type 0} {i : zone_index.Ghosts I} {s : kept.Ghosts S} → ℕ → Machine → Event
+    → Primary I S i s → Type 0
+IsRecoveredBy tries m event p = (new : Machine) × IsStopped tries m event new × IsKept p new
+
+-- ... and was then given other settings.
+abbrev pub IsRecoveredAnew : {I S : Type 0} {i : zone_index.Ghosts I} {s : kept.Ghosts S} → ℕ → Machine
+    → Event → Primary I S i s → Type 0
+IsRecoveredAnew tries m event p =
+    (old new : Machine) × IsStopped tries m event old × IsConfigured old new × IsKept p new
+
+-- They are devices of the machine still, and this was one try more.
+abbrev pub StayDevicesOf : {D : Type 0} → Ghosts D → ℕ → Machine → Event → List Labels → List ZoneSpec
+    → NotOpened D → Type 0
+StayDevicesOf g tries m event apexes settings e =
+    AreDevicesOf g (suc tries) m event apexes settings e.devices.items
+    × IsRecoveryStopped tries e.error e.index m.zones
+
+-- ... whose zones had these settings or others.
+abbrev pub StayDevicesAnew : {D : Type 0} → Ghosts D → ℕ → Machine → Event → List Labels → List ZoneSpec
+    → NotOpened D → Type 0
+StayDevicesAnew g tries m event apexes settings e =
+    AreDevicesAnew g (suc tries) m event apexes settings e.devices.items
+    × IsRecoveryStopped tries e.error e.index m.zones
+
+-- A crash at any moment between the two leaves each device of the machine so that its zone may be recovered,
+-- with one try more.
+abbrev pub LeaveDevices : {D : Type 0} → Ghosts D → ℕ → Machine → Event → List D → List D → Type 0
+LeaveDevices g tries m event olds news = LeaveRecovered g (suc tries) m event 0 m.zones olds news
+
+-- Opened on the devices of a machine that stopped, with so many tries since, it is a machine that recovered
+-- from that stop; refused, they are such devices still, and this was one try more.
+abbrev pub Recovers : {D I : Type 0} → (g : Ghosts D) → {i : zone_index.Ghosts I}
+    {s : kept.Ghosts (KeptStore D I g)} → List Labels → List ZoneSpec → List D
+    → Result (Primary I (KeptStore D I g) i s) (NotOpened D) → Type 0
+Recovers g apexes settings devices result =
+    (m : Machine) (event : Event) (tries : ℕ) → AreDevicesOf g tries m event apexes settings devices
+    → MatchResult result (IsRecoveredBy tries m event) (StayDevicesOf g tries m event apexes settings)
+
+-- Where the machine had other settings, it is that machine, which was then given these.
+abbrev pub RecoversAnew : {D I : Type 0} → (g : Ghosts D) → {i : zone_index.Ghosts I}
+    {s : kept.Ghosts (KeptStore D I g)} → List Labels → List ZoneSpec → List D
+    → Result (Primary I (KeptStore D I g) i s) (NotOpened D) → Type 0
+RecoversAnew g apexes settings devices result =
+    (m : Machine) (event : Event) (tries : ℕ) → AreDevicesAnew g tries m event apexes settings devices
+    → MatchResult result (IsRecoveredAnew tries m event) (StayDevicesAnew g tries m event apexes settings)
+
+-- A crash at any moment of it leaves each device as one that a crash might have left before.
+abbrev pub LeavesRecoverable : {D I : Type 0} → (g : Ghosts D) → {i : zone_index.Ghosts I}
+    {s : kept.Ghosts (KeptStore D I g)} → List Labels → List ZoneSpec → List D
+    → Result (Primary I (KeptStore D I g) i s) (NotOpened D) → Type 0
+LeavesRecoverable g apexes settings devices result =
+    (m : Machine) (event : Event) (tries : ℕ) → AreDevicesAnew g tries m event apexes settings devices
+    → MatchResult result (λ p. LeaveDevices g tries m event devices (devices_of p))
+    (λ e. LeaveDevices g tries m event devices e.devices.items)

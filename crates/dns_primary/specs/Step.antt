@@ -114,7 +114,7 @@ IsArrived fails old number (Some peer) octets effects new =
     IsRequestHandled fails old (to.Connection number) peer (handled (shown_zones old) octets Tcp) effects new
 
 -- A connection gets a number that no other has, below how many there may be.
-pub record IsAccepted (old : Machine) (peer : Peer) (effects : Effects) (new : Machine) : Type 0 where
+pub record HasNumber (old : Machine) (peer : Peer) (effects : Effects) (new : Machine) : Type 0 where
   pub few : length old.connections < most_connections
   pub number : ℕ
   pub below : number < most_connections
@@ -125,7 +125,7 @@ pub record IsAccepted (old : Machine) (peer : Peer) (effects : Effects) (new : M
 -- It does, or it gets none where there are as many as may be.
 abbrev pub IsConnected : Machine → Peer → Effects → Machine → Type 0
 IsConnected old peer effects new =
-    IsAccepted old peer effects new
+    HasNumber old peer effects new
     ⊎ ((most_connections ≤ length old.connections) × GivesEffects effects new old [] [])
 
 -- What an event does where memory is not refused.

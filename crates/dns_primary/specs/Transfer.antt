@@ -69,6 +69,13 @@ abbrev pub may_have : IpAddr → Option ZoneState → Bool
 may_have address None = false
 may_have address (Some z) = z.setting.may_transfer address
 
+-- What a request of a zone opens, from the version that is shown, or why it is refused.
+abbrev pub OpensShown : Machine → ZoneState → To → Peer → List ℕ → Message → Question → Result Sending Rcode
+    → Type 0
+OpensShown m z to peer octets message question opened =
+    Opens (transport_of to) octets message question (Some (transfer_version z))
+    (z.setting.may_transfer peer.address && is_free to m.connections) opened
+
 -- What a request opens, from the version that is shown, or why it is refused.
 abbrev pub OpensFrom : Machine → To → Peer → List ℕ → Message → Question → Result Sending Rcode → Type 0
 OpensFrom m to peer octets message question opened =

@@ -1,6 +1,6 @@
 //! The flush of all zones, and of the replies that waited for it.
-ghost use Rattle.std.specs.Prelude.{◌≡◌, ◌≢◌, ◌<◌, ◌≤◌, ◌+◌, ◌++◌, List, [], None, Bool, map, length, slice_get};
-ghost use Rattle.std.specs.Prelude.{vec_capacity, if◌then◌else◌};
+ghost use Rattle.std.specs.Prelude.{◌≡◌, ◌≢◌, ◌<◌, ◌≤◌, ◌+◌, ◌++◌, List, [], None, map, length, slice_get};
+ghost use Rattle.std.specs.Prelude.{vec_capacity};
 ghost use Rattle.dns_primary.specs.declared.event.Noted.TheVariants.{OutOfMemory as StatedLack};
 ghost use Rattle.dns_primary.specs.Step.{IsFlushed, noted_of};
 ghost use Rattle.dns_primary.specs.Steps.{Stepped};
@@ -8,15 +8,14 @@ ghost use Rattle.dns_zone.specs.Zone.{Zone as Stated};
 ghost use Rattle.dns_sectors.specs.Device.{LeavesOnly};
 ghost use Rattle.dns_store.specs.Versions.{Kept, OpensAsLeft};
 ghost use Rattle.dns_versions.specs.Each.{Each2, Each3};
-ghost use Rattle.dns_versions.specs.Held.{HasVersions, newest_each};
-ghost use Rattle.dns_versions.specs.Flush.{FailedWhere, first_true};
+ghost use Rattle.dns_versions.specs.Held.{AllHave, newest_each};
 ghost use Rattle.dns_primary.specs.Machine.{Machine, ZoneState, Waits};
-ghost use Rattle.dns_primary.specs.Flush.{all_out, answered_in, answered_of, flush_sends, flushed, goes_out};
-ghost use Rattle.dns_primary.specs.Flush.{is_closed_in, released};
+ghost use Rattle.dns_primary.specs.Flush.{all_out, answered_in, answered_of};
+ghost use Rattle.dns_primary.specs.Flush.{is_closed_in, released, released_code};
 ghost use Rattle.dns_wire.specs.Text.{text};
-ghost use Rattle.dns_request.specs.Codes.{rcode_servfail};
 ghost use Rattle.dns_answer.specs.Answer.{bare_reply};
-ghost use Rattle.dns_primary.specs.Keeps.{HaveVersions, IsKept, IsWaiting, header_out};
+ghost use Rattle.dns_primary.specs.Keeps.{AreAllFlushed, AreTold, GoesOutAfter, HaveVersions, IsKept};
+ghost use Rattle.dns_primary.specs.Keeps.{IsWaiting, header_out};
 
 use crate::{Effects, HeaderTo, Noted, Primary, Waiting};
 use arrayvec::ArrayVec;
@@ -48,9 +47,7 @@ fn released_octets<I: ZoneIndex, S: ZoneStore>(
     ensures { (shown : List Stated) (zones : List ZoneState) (w : Waits)
         → HaveVersions S.keeps shown pending.now zones
         → IsWaiting waiting.now w
-        → result
-        ≡ text (bare_reply w.header
-        (if is_closed_in (slice_get zones w.zone) then rcode_servfail else w.rcode)) }
+        → result ≡ text (bare_reply w.header (released_code zones w)) }
 {
     let rcode = if is_closed_at(pending, waiting.zone) {
         Rcode::ServFail
@@ -70,11 +67,11 @@ fn release<I: ZoneIndex, S: ZoneStore>(
     ensures sent { (shown : List Stated) (zones : List ZoneState) (w : Waits)
         → HaveVersions S.keeps shown pending.now zones
         → IsWaiting waiting.now w
-        → map header_out headers.new.items ≡ map header_out headers.old.items ++ goes_out (released zones w) }
+        → GoesOutAfter headers.old.items headers.new.items (released zones w) }
     ensures told { (zones : List ZoneState) (w : Waits) (before : List Waits)
         → IsWaiting waiting.now w
-        → Each2 (λ h w. IsWaiting h.waited w) headers.old.items before
-        → Each2 (λ h w. IsWaiting h.waited w) headers.new.items (before ++ answered_in (released zones w)) }
+        → AreTold headers.old.items before
+        → AreTold headers.new.items (before ++ answered_in (released zones w)) }
     ensures few { length headers.new.items ≤ length headers.old.items + 1 }
     ensures capacity { vec_capacity headers.new ≡ vec_capacity headers.old }
 {
@@ -101,7 +98,7 @@ fn release_all<I: ZoneIndex, S: ZoneStore>(
         → map header_out headers.new.items ≡ all_out (map (released zones) ws) }
     ensures told { (zones : List ZoneState) (ws : List Waits)
         → Each2 IsWaiting waiting.now.items ws
-        → Each2 (λ h w. IsWaiting h.waited w) headers.new.items (answered_of (map (released zones) ws)) }
+        → AreTold headers.new.items (answered_of (map (released zones) ws)) }
     ensures few { length headers.new.items ≤ 32 }
 {
     let waiting = waiting.as_slice();
@@ -123,16 +120,10 @@ fn flush_zones<I: ZoneIndex, S: ZoneStore>(
     requires places { length waiting.old.items ≤ vec_capacity headers.old }
     ensures flushed { (m : Machine) → HaveVersions S.keeps zones.old pending.old m.zones
         → Each2 IsWaiting waiting.old.items m.waiting
-        → (fails : List Bool) × (length fails ≡ length m.zones)
-        × FailedWhere (λ b. S.failed b.store) fails pending.old pending.new
-        × HaveVersions S.keeps zones.new pending.new (flushed fails m).zones
-        × (map header_out headers.new.items ≡ all_out (flush_sends fails m))
-        × Each2 (λ h w. IsWaiting h.waited w) headers.new.items (answered_of (flush_sends fails m))
-        × (result ≡ first_true fails) }
+        → AreAllFlushed S.keeps S.failed m zones.new pending.old pending.new headers.new.items result }
     ensures empty { waiting.new.items ≡ [] }
     ensures few { length headers.new.items ≤ 32 }
-    ensures any_moment { (ks : List Kept)
-        → Each3 (λ z b k. HasVersions S.keeps z b k) zones.old pending.old ks
+    ensures any_moment { (ks : List Kept) → AllHave S.keeps zones.old pending.old ks
         → Each3 (λ a b k. LeavesOnly S.moment S.left_since a.store b.store (OpensAsLeft S.opens k))
         pending.old pending.new ks }
     ensures newest { newest_each zones.new pending.new ≡ newest_each zones.old pending.old }

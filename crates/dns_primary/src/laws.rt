@@ -12,7 +12,7 @@ ghost use Rattle.dns_primary.specs.Step.{Effects as StatedEffects, Event as Stat
 ghost use Rattle.dns_primary.specs.Stop.{Checkpoints, IsMaking, OpensAsRecovered};
 ghost use Rattle.dns_primary.specs.Fresh.{IsFresh, IsLoaded, IsResumed, IsStart};
 ghost use Rattle.dns_primary.specs.Open.{shape_of};
-ghost use Rattle.dns_primary.specs.Continues.{Continues, OpensOn};
+ghost use Rattle.dns_primary.specs.Continues.{Continues, OpensByEvent};
 ghost use Rattle.dns_primary.specs.Causes.{HaveCauses};
 ghost use Rattle.dns_primary.specs.declared.event.Noted.TheVariants.{OutOfMemory};
 ghost use Rattle.dns_primary.specs.Runs.{IsNoAcknowledgement, IsReleasedFrom, brings_update};
@@ -95,9 +95,8 @@ pub fn servfail_law()
 /// refused the next pump gives it.
 pub fn transfers_law()
     ensures opened { (number : ℕ) (fails : List Bool) (old : Machine) (event : StatedEvent)
-        (effects : StatedEffects) (new : Machine)
-        (s : Sending) → sending_at number old.connections ≡ None → sending_at number new.connections ≡ Some s
-        → Step fails old event effects new → OpensOn old number event s }
+        (effects : StatedEffects) (new : Machine) (s : Sending)
+        → OpensByEvent number fails old event effects new s }
     ensures continues { (number : ℕ) (start : Machine) (run : List Moment)
         → Run start run → Continues number run (sending_at number start.connections) }
 {}

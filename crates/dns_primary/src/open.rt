@@ -1,18 +1,9 @@
 //! Primaries over devices: the store of each zone is opened, and at the end all devices are handed out again.
-ghost use Rattle.std.specs.Prelude.{◌≡◌, ◌≤◌, ◌+◌, ◌++◌, ℕ, suc, List, length, map, vec_capacity};
+ghost use Rattle.std.specs.Prelude.{◌≡◌, ◌≤◌, ◌+◌, ◌++◌, length, map, vec_capacity};
 ghost use Rattle.std.specs.Prelude.{IfErr, IfOk, MatchResult};
-ghost use Rattle.dns_primary.specs.Machine.{Machine};
-ghost use Rattle.dns_names.specs.Name.{Labels};
-ghost use Rattle.dns_primary.specs.declared.event.Effects.{Effects as StatedEffects};
-ghost use Rattle.dns_primary.specs.declared.primary.ZoneSpec.{ZoneSpec as StatedSettings};
-ghost use Rattle.dns_primary.specs.Step.{Event as StatedEvent};
-ghost use Rattle.dns_primary.specs.Steps.{SteppedBy};
-ghost use Rattle.dns_primary.specs.HandOut.{AreSetAs};
-ghost use Rattle.dns_primary.specs.Stop.{IsConfigured, IsStopped};
-ghost use Rattle.dns_primary.specs.Keeps.{IsKept};
-ghost use Rattle.dns_primary.specs.Open.{AreAllOpened, AreDevicesOf, AreDevicesAnew, AreOpened, AreRefused};
-ghost use Rattle.dns_primary.specs.Open.{IsNotOpened, IsOpened};
-ghost use Rattle.dns_primary.specs.Open.{IsRecoveryStopped, LeaveRecovered, count_of};
+ghost use Rattle.dns_primary.specs.HandOut.{HandsOutAtRest, HandsOutWithin};
+ghost use Rattle.dns_primary.specs.Open.{AreAllOpened, AreOpened, AreRefused, IsNotOpened, IsOpened};
+ghost use Rattle.dns_primary.specs.Open.{LeavesRecoverable, Recovers, RecoversAnew, count_of};
 ghost use Rattle.dns_primary.specs.Open.{device_of_pending, devices_of};
 
 use crate::connections::no_connections;
@@ -168,28 +159,15 @@ impl<D: Sectors + Drop, I: ZoneIndex> Primary<I, KeptStore<D, I>> {
     ) -> Result<Primary<I, KeptStore<D, I>>, NotOpened<D>>
         requires as_many { length devices.items ≡ length settings.items }
         requires named { length apexes.now ≡ length settings.items }
-        // On the devices of a machine that stopped, with so many tries since, it is a machine that recovered
-        // from that stop; refused, the devices are such devices still, and this was one try more.
-        ensures recovered { (m : Machine) (event : StatedEvent) (tries : ℕ)
-            → AreDevicesOf D.Sectors tries m event apexes.now settings.entry.items devices.entry.items
-            → MatchResult result (λ p. (new : Machine) × IsStopped tries m event new × IsKept p new)
-            (λ e. AreDevicesOf D.Sectors (suc tries) m event apexes.now settings.entry.items e.devices.items
-            × IsRecoveryStopped tries e.error e.index m.zones) }
+        // On the devices of a machine that stopped it is a machine that recovered from that stop; refused,
+        // the devices are such devices still, and this was one try more.
+        ensures recovered { Recovers D.Sectors apexes.now settings.entry.items devices.entry.items result }
         // Where it had other settings, it is that machine, which was then given these.
-        ensures configured { (m : Machine) (event : StatedEvent) (tries : ℕ)
-            → AreDevicesAnew D.Sectors tries m event apexes.now settings.entry.items devices.entry.items
-            → MatchResult result
-            (λ p. (old new : Machine) × IsStopped tries m event old × IsConfigured old new × IsKept p new)
-            (λ e. AreDevicesAnew D.Sectors (suc tries) m event apexes.now settings.entry.items e.devices.items
-            × IsRecoveryStopped tries e.error e.index m.zones) }
+        ensures configured { RecoversAnew D.Sectors apexes.now settings.entry.items devices.entry.items
+            result }
         // A crash at any moment of it leaves each device as one that a crash might have left before.
-        ensures any_moment { (m : Machine) (event : StatedEvent) (tries : ℕ)
-            → AreDevicesAnew D.Sectors tries m event apexes.now settings.entry.items devices.entry.items
-            → MatchResult result
-            (λ p. LeaveRecovered D.Sectors (suc tries) m event 0 m.zones devices.entry.items
-            (devices_of p))
-            (λ e. LeaveRecovered D.Sectors (suc tries) m event 0 m.zones devices.entry.items
-            e.devices.items) }
+        ensures any_moment { LeavesRecoverable D.Sectors apexes.now settings.entry.items devices.entry.items
+            result }
         // It has a zone for each device, whatever was on them.
         ensures count { IfOk result (λ p. count_of p ≡ length devices.entry.items) }
         // Each device was opened as its zone, whatever was on the others.
@@ -238,15 +216,9 @@ impl<D: Sectors + Drop, I: ZoneIndex> Primary<I, KeptStore<D, I>> {
     pub fn into_stores(self) -> Vec<ZoneVersions<I, KeptStore<D, I>>, Heap>
         ensures handed_out { map (λ b. device_of_pending b) result.items ≡ devices_of self }
         // Between two events: a machine that it keeps, which stops here.
-        ensures at_rest { (m : Machine) (event : StatedEvent) (apexes : List Labels)
-            (settings : List StatedSettings)
-            → IsKept self m → AreSetAs apexes settings m.zones
-            → AreDevicesOf D.Sectors 0 m event apexes settings (devices_of self) }
+        ensures at_rest { HandsOutAtRest D.Sectors self }
         // Within the event that led here: the machine from which it came.
-        ensures within { (m : Machine) (event : StatedEvent) (before : _) (effects : StatedEffects)
-            (apexes : List Labels) (settings : List StatedSettings)
-            → SteppedBy m event before self effects → AreSetAs apexes settings m.zones
-            → AreDevicesOf D.Sectors 0 m event apexes settings (devices_of self) }
+        ensures within { HandsOutWithin D.Sectors self }
     {
         let Primary {
             zones: _,
@@ -265,14 +237,8 @@ impl<D: Sectors + Drop, I: ZoneIndex> Primary<I, KeptStore<D, I>> {
     pub fn into_devices(self, devices: &mut Vec<D, Heap>)
         requires { count_of self + length devices.old.items ≤ vec_capacity devices.old }
         ensures handed_out { devices.new.items ≡ devices_of self ++ devices.old.items }
-        ensures at_rest { (m : Machine) (event : StatedEvent) (apexes : List Labels)
-            (settings : List StatedSettings)
-            → IsKept self m → AreSetAs apexes settings m.zones
-            → AreDevicesOf D.Sectors 0 m event apexes settings (devices_of self) }
-        ensures within { (m : Machine) (event : StatedEvent) (before : _) (effects : StatedEffects)
-            (apexes : List Labels) (settings : List StatedSettings)
-            → SteppedBy m event before self effects → AreSetAs apexes settings m.zones
-            → AreDevicesOf D.Sectors 0 m event apexes settings (devices_of self) }
+        ensures at_rest { HandsOutAtRest D.Sectors self }
+        ensures within { HandsOutWithin D.Sectors self }
     {
         take_back(devices, self.into_stores());
     }

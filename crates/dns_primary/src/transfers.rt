@@ -1,5 +1,5 @@
 //! Transfers: what a request for one opens, and the messages that go out (RFC 5936, RFC 1995).
-ghost use Rattle.std.specs.Prelude.{◌≡◌, ◌⊎◌, ◌<◌, ◌==◌, ◌&&◌, ◌↔◌, ◌++◌, ◌∷◌, ℕ, [], true, false, not};
+ghost use Rattle.std.specs.Prelude.{◌≡◌, ◌⊎◌, ◌<◌, ◌==◌, ◌↔◌, ◌++◌, ◌∷◌, ℕ, [], true, false, not};
 ghost use Rattle.std.specs.Prelude.{filter, length, slice_get, None, Some, IsTrue, IfOk, IfSome, OnErr, OnOk};
 ghost use Rattle.std.specs.Prelude.{MatchOption};
 ghost use Rattle.std.specs.List.{position};
@@ -10,7 +10,7 @@ ghost use Rattle.dns_primary.specs.declared.event.To.TheVariants.{Connection as 
 ghost use Rattle.dns_transfer.specs.Session.{Opens, SendsMessage};
 ghost use Rattle.dns_primary.specs.Machine.{Machine, ZoneState};
 ghost use Rattle.dns_primary.specs.Flush.{Replied};
-ghost use Rattle.dns_primary.specs.Transfer.{OpensFrom, is_free, refusal_of, transport_of, transfer_version};
+ghost use Rattle.dns_primary.specs.Transfer.{OpensFrom, OpensShown, is_free, refusal_of, transport_of};
 ghost use Rattle.dns_primary.specs.Step.{Step, Pump};
 ghost use Rattle.dns_primary.specs.Keeps.{AreEffects, IsKept, HasConnection, sending_on};
 ghost use Rattle.dns_primary.specs.Steps.{IsTransferredOrLacks, Stepped, lack_reply, nothing, one_reply};
@@ -257,9 +257,8 @@ impl<I: ZoneIndex, S: ZoneStore> Primary<I, S> {
         requires inside { index < length self.now.zones.items }
         ensures opens { (m : Machine) (z : ZoneState) → IsKept self.now m
             → slice_get m.zones index ≡ Some z → IfOk result
-            (λ opened. Opens (transport_of to) request.now.message.octets request.now.message.message
-            request.now.question (Some (transfer_version z))
-            (z.setting.may_transfer peer.address && is_free to m.connections) opened) }
+            (OpensShown m z to peer request.now.message.octets request.now.message.message
+            request.now.question) }
         ensures some { IfOk result (λ opened. IfOk opened (λ s. s.left ≡ [] → ⊥)) }
     {
         let version = Version {

@@ -1,20 +1,19 @@
 //! The way of an update: it is admitted, judged on the newest version of its zone, planned, given room,
 //! staged, and answered by the next flush.
-ghost use Rattle.std.specs.Prelude.{◌≡◌, ◌≢◌, ◌<◌, true, false, None, Some, IfOk, length, option_map};
+ghost use Rattle.std.specs.Prelude.{◌≡◌, ◌≢◌, ◌<◌, ◌++◌, ◌∷◌, [], true, false, None, Some, IfOk, length, option_map};
 ghost use Rattle.std.specs.Prelude.{slice_get};
 ghost use Rattle.dns_wire.specs.Message.{header_of};
-ghost use Rattle.dns_wire.specs.declared.codes.Rcode.TheVariants.{ServFail};
-ghost use Rattle.dns_store.specs.Versions.{Kept, StandsStill};
-ghost use Rattle.dns_update.specs.Verdict.{Verdict, verdict};
+ghost use Rattle.dns_store.specs.Versions.{Kept};
+ghost use Rattle.dns_update.specs.Verdict.{verdict};
 ghost use Rattle.dns_versions.specs.Each.{Each2};
 ghost use Rattle.dns_versions.specs.Held.{HasVersions, newer, newest_each, newest_zone};
 ghost use Rattle.dns_primary.specs.declared.event.Noted.TheVariants.{OutOfMemory as StatedLack};
-ghost use Rattle.dns_primary.specs.declared.update.Outcome.TheVariants.{AtOnce};
+ghost use Rattle.dns_primary.specs.declared.update.Outcome.TheVariants.{Waits};
 ghost use Rattle.dns_primary.specs.To.{is_nowhere};
 ghost use Rattle.dns_primary.specs.Machine.{Machine, ZoneState, kept_of};
 ghost use Rattle.dns_primary.specs.Update.{admission, answer, lacked_by, room_lacked};
 ghost use Rattle.dns_primary.specs.Step.{IsUpdateBegun};
-ghost use Rattle.dns_primary.specs.Outcome.{HasLeft, IsDone, IsPlannedBy, IsStageable, lacked_of, refused_as};
+ghost use Rattle.dns_primary.specs.Outcome.{IsPlannedBy, IsStageable, lacked_of, refused_as};
 ghost use Rattle.dns_primary.specs.Keeps.{IsKept, admission_shown};
 ghost use Rattle.dns_primary.specs.Queue.{HoldsStill, IsAnswered, IsOfNewest, IsStageableAt, IsUntouched};
 ghost use Rattle.dns_primary.specs.Queue.{asked_of, verdict_on};
@@ -22,6 +21,7 @@ ghost use Rattle.dns_primary.specs.Steps.{IsBegunOrLacks, IsUpdatedOrLacks, Step
 
 use crate::admission::admit;
 use crate::{Effects, Noted, Primary, To, Waiting};
+use arrayvec::ArrayVec;
 use dns_changes::PreparedEntry;
 use dns_memory::Heap;
 use dns_names::Name;
@@ -125,33 +125,6 @@ fn plan_update<I: ZoneIndex, S: ZoneStore>(
     }
 }
 
-/// Stages what an update of a zone is planned to make, unless the zone is closed. No device is touched.
-fn stage_planned<I: ZoneIndex, S: ZoneStore>(
-    zone: &Zone<I>,
-    versions: &mut ZoneVersions<I, S>,
-    planned: Planned<I>,
-) -> Outcome
-    requires stageable { IsStageable (newer zone.now versions.old.tip) planned }
-    ensures done { (k : Kept) (v : Verdict) → HasVersions S.keeps zone.now versions.old k → k.closed ≡ false
-        → HasLeft k v → IsPlannedBy k v planned
-        → IsDone (λ k. HasVersions S.keeps zone.now versions.new k) k v result }
-    ensures closed { (k : Kept) → HasVersions S.keeps zone.now versions.old k → k.closed ≡ true
-        → (result ≡ AtOnce ServFail) × HasVersions S.keeps zone.now versions.new k }
-    ensures still { StandsStill S.moment S.left_since versions.old.store versions.new.store }
-    ensures quiet { S.failed versions.new.store ≡ S.failed versions.old.store }
-{
-    if versions.store.is_closed() {
-        return Outcome::AtOnce(Rcode::ServFail);
-    }
-    match planned {
-        Planned::Unchanged(rcode) => Outcome::Waits(rcode),
-        Planned::Accepted(plan, _) => match versions.stage(zone, plan) {
-            Ok(()) => Outcome::Waits(Rcode::NoError),
-            Err(error) => refused(error),
-        },
-    }
-}
-
 /// The reply to an update of the zone at an index, which waits with this code after what was staged.
 fn waiting_reply<I: ZoneIndex, S: ZoneStore>(
     zone: &Zone<I>,
@@ -176,6 +149,17 @@ fn waiting_reply<I: ZoneIndex, S: ZoneStore>(
         version: versions.store.newest(),
         serial: versions.newest(zone).soa().serial(),
     }
+}
+
+/// Lets a reply wait for the next flush, after those that wait.
+fn keep_waiting(waiting: &mut ArrayVec<Waiting, 32>, reply: Waiting) -> Outcome
+    requires { length waiting.old.items < 32 }
+    ensures items { waiting.new.items ≡ waiting.old.items ++ reply ∷ [] }
+    ensures outcome { result ≡ Waits reply.rcode }
+{
+    let rcode = reply.rcode;
+    waiting.push(reply);
+    Outcome::Waits(rcode)
 }
 
 /// Whether memory was refused.
@@ -296,8 +280,8 @@ impl<I: ZoneIndex, S: ZoneStore> Primary<I, S> {
         }
     }
 
-    /// Stages what an update of the zone at an index makes, and lets its reply wait, unless it goes out at
-    /// once.
+    /// Stages what an update of the zone at an index is planned to make, and lets its reply wait, unless the
+    /// zone is closed: then the reply goes out at once. No device is touched.
     fn stage(&mut self, index: usize, update: &UpdateRequest<'_>, planned: Planned<I>) -> Outcome
         requires inside { index < length self.old.pending.items }
         requires room { length self.old.waiting.items < 32 }
@@ -315,14 +299,21 @@ impl<I: ZoneIndex, S: ZoneStore> Primary<I, S> {
         };
         let zone = &self.zones[index];
         let versions = &mut self.pending[index];
-        match stage_planned(zone, versions, planned) {
-            Outcome::Waits(rcode) => {
+        if versions.store.is_closed() {
+            return Outcome::AtOnce(Rcode::ServFail);
+        }
+        match planned {
+            Planned::Unchanged(rcode) => {
                 let reply = waiting_reply(zone, versions, index, update, rcode);
-                self.waiting.push(reply);
-                Outcome::Waits(rcode)
+                keep_waiting(&mut self.waiting, reply)
             }
-            Outcome::AtOnce(rcode) => Outcome::AtOnce(rcode),
-            Outcome::OutOfMemory => Outcome::OutOfMemory,
+            Planned::Accepted(plan, _) => match versions.stage(zone, plan) {
+                Ok(()) => {
+                    let reply = waiting_reply(zone, versions, index, update, Rcode::NoError);
+                    keep_waiting(&mut self.waiting, reply)
+                }
+                Err(error) => refused(error),
+            },
         }
     }
 }

@@ -1,11 +1,17 @@
 -- A recorder, as its contracts see it.
-use Rattle.std.specs.Prelude.{◌≡◌, ℕ, Bool, true, false, List, [], ◌∷◌, ◌++◌, Option, replicate}
+use Rattle.std.specs.Prelude.{◌≡◌, ◌⊎◌, ℕ, Bool, true, false, List, [], ◌∷◌, ◌++◌, Option, replicate}
 use Rattle.std.specs.Io.KnownBytes.{Appends, append_known}
+use Rattle.dns_names.specs.Name.{Labels}
+use Rattle.dns_primary.specs.Machine.{ZoneState}
+use Rattle.dns_primary.specs.Step.{Event}
+use Rattle.dns_primary.specs.declared.event.Effects.{Effects}
+use Rattle.dns_network.specs.declared.network.Note.{Note}
 use Rattle.dns_network.specs.declared.network.Note.TheVariants.{Ends, Unrecorded}
 use Rattle.dns_network.specs.declared.network.Observer.{Ghosts}
 use Rattle.dns_network.specs.Notes.{AreReported, Report, OfNote}
 use Rattle.dns_recording.specs.declared.recorder.Recorder.{Recorder}
-use Rattle.dns_recording.specs.Script.{Scripted, places_recorded, report_scripted, script_of}
+use Rattle.dns_recording.specs.Script.{Scripted, comments_scripted, event_scripted, note_scripted}
+use Rattle.dns_recording.specs.Script.{places_recorded, report_scripted, script_of}
 
 -- Whether it records, what its file holds, the lines of the turn, which are still to be written, and which
 -- connections are stirred.
@@ -90,6 +96,35 @@ module _ {W L : Type 0} where
   abbrev pub IsSameRecorder : Recorder W L → Recorder W L → Type 0
   IsSameRecorder old new =
       (new.file.ghost_name ≡ old.file.ghost_name) × (new.notes.ghost_name ≡ old.notes.ghost_name)
+
+  -- The recording ended, and the observer behind it was told so.
+  abbrev pub IsOver : Ghosts L → Recorder W L → Recorder W L → Type 0
+  IsOver l old new = (new.is_on ≡ false) × l.takes old.notes.now Unrecorded new.notes.now
+
+  -- It goes on, and what is written of a note is said; where a turn ends, no line is left to write. Or the
+  -- recording ended.
+  abbrev pub HasRecordedNote : (W → Option (List ℕ)) → Ghosts L → Note → Recorder W L → Recorder W L → Type 0
+  HasRecordedNote contents l note old new =
+      ((new.is_on ≡ old.is_on) × (new.notes.now ≡ old.notes.now)
+      × IsScripted (note_scripted old.stirred note) (recording_of contents old) (recording_of contents new)
+      × (note ≡ Ends → new.lines.now.items ≡ []))
+      ⊎ IsOver l old new
+
+  -- The same of an event and its effects.
+  abbrev pub HasRecordedEvent : (W → Option (List ℕ)) → Ghosts L → Event → Effects → Recorder W L
+      → Recorder W L → Type 0
+  HasRecordedEvent contents l event effects old new =
+      ((new.is_on ≡ old.is_on) × (new.notes.now ≡ old.notes.now)
+      × IsScripted (event_scripted old.stirred event effects)
+      (recording_of contents old) (recording_of contents new))
+      ⊎ IsOver l old new
+
+  -- Before any report, comments on the zones of a machine are written.
+  abbrev pub HasBegun : (W → Option (List ℕ)) → Ghosts L → List Labels → List ZoneState → Recorder W L
+      → Recorder W L → Type 0
+  HasBegun contents l origins zones old new =
+      HasScripted l (comments_scripted (recording_of contents old).stirred origins zones) []
+      (recording_of contents old) (recording_of contents new) old.notes.now new.notes.now
 
   -- Whatever reports a recorder takes, they are recorded in its file.
   abbrev pub RecordsAll : (W → Option (List ℕ)) → Ghosts (Recorder W L) → Ghosts L → Type 0

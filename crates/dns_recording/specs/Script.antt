@@ -131,3 +131,8 @@ zone_comments [] zones = []
 zone_comments (origin ∷ origins) [] = []
 zone_comments (origin ∷ origins) (z ∷ zones) =
     zone_comment origin (length z.shown) (shown_zone (kept_of z)) ++ zone_comments origins zones
+
+-- They are written before any report, and no connection is stirred by them.
+abbrev pub comments_scripted : List Bool → List Labels → List ZoneState → Scripted
+comments_scripted stirred origins zones =
+    record { text = zone_comments origins zones; stirred = stirred }

@@ -1,14 +1,14 @@
 //! An observer of turns that records them, and hands all on to another one.
-ghost use Rattle.std.specs.Prelude.{◌≡◌, ◌⊎◌, true, false, [], ◌∷◌, OnOk};
+ghost use Rattle.std.specs.Prelude.{◌≡◌, true, false, [], OnOk};
 ghost use Rattle.std.specs.Io.KnownBytes.{Appends};
 ghost use Rattle.dns_primary.specs.Keeps.{IsKept};
 ghost use Rattle.dns_primary.specs.Machine.{Machine};
 ghost use Rattle.dns_primary.specs.Steps.{event_shown};
 ghost use Rattle.dns_network.specs.declared.network.Note.TheVariants.{Ends, Unrecorded};
 ghost use Rattle.dns_network.specs.Notes.{OfEvent, OfNote};
-ghost use Rattle.dns_recording.specs.Recorder.{HasScripted, IsRecorded, IsSameRecorder, IsScripted};
-ghost use Rattle.dns_recording.specs.Recorder.{fresh_recording, recording_of};
-ghost use Rattle.dns_recording.specs.Script.{event_scripted, note_scripted, zone_comments};
+ghost use Rattle.dns_recording.specs.Recorder.{HasBegun, HasRecordedEvent, HasRecordedNote, IsRecorded};
+ghost use Rattle.dns_recording.specs.Recorder.{IsSameRecorder, IsScripted, fresh_recording, recording_of};
+ghost use Rattle.dns_recording.specs.Script.{comments_scripted, event_scripted, note_scripted};
 
 use crate::lines::{PLACES, add_event, add_note};
 use crate::start::write_zones;
@@ -130,7 +130,7 @@ impl<'f, W: Write, L> Recorder<'f, W, L> {
         ensures notes { self.new.notes.now ≡ self.old.notes.now }
         ensures on { self.new.is_on ≡ self.old.is_on }
         ensures said { OnOk result ((m : Machine) → IsKept primary.now m
-            → IsScripted (record { text = zone_comments origins.now m.zones; stirred = self.old.stirred })
+            → IsScripted (comments_scripted self.old.stirred origins.now m.zones)
             (recording_of W.contents self.old) (recording_of W.contents self.new)) }
         ensures none_left { OnOk result (self.new.lines.now.items ≡ []) }
     {
@@ -157,11 +157,7 @@ impl<W: Write, L: Observer> Recorder<'_, W, L> {
     #[inline(never)]
     fn record_note(&mut self, note: Note)
         ensures same { IsSameRecorder self.old self.new }
-        ensures recorded { ((self.new.is_on ≡ self.old.is_on) × (self.new.notes.now ≡ self.old.notes.now)
-            × IsScripted (note_scripted self.old.stirred note) (recording_of W.contents self.old)
-            (recording_of W.contents self.new)
-            × (note ≡ Ends → self.new.lines.now.items ≡ []))
-            ⊎ ((self.new.is_on ≡ false) × L.takes self.old.notes.now Unrecorded self.new.notes.now) }
+        ensures recorded { HasRecordedNote W.contents L.Observer note self.old self.new }
     {
         if let Err(_) = self.add_note(note) {
             self.end();
@@ -172,10 +168,8 @@ impl<W: Write, L: Observer> Recorder<'_, W, L> {
     #[inline(never)]
     fn record_event(&mut self, event: Event<'_>, effects: &Effects)
         ensures same { IsSameRecorder self.old self.new }
-        ensures recorded { ((self.new.is_on ≡ self.old.is_on) × (self.new.notes.now ≡ self.old.notes.now)
-            × IsScripted (event_scripted self.old.stirred (event_shown event.entry) effects.now)
-            (recording_of W.contents self.old) (recording_of W.contents self.new))
-            ⊎ ((self.new.is_on ≡ false) × L.takes self.old.notes.now Unrecorded self.new.notes.now) }
+        ensures recorded { HasRecordedEvent W.contents L.Observer (event_shown event.entry) effects.now
+            self.old self.new }
     {
         if let Err(_) = self.add_event(event, effects) {
             self.end();
@@ -191,13 +185,7 @@ impl<W: Write, L: Observer> Recorder<'_, W, L> {
     )
         ensures same { IsSameRecorder self.old self.new }
         ensures said { (m : Machine) → IsKept primary.now m
-            → HasScripted L.Observer
-            (record {
-              text = zone_comments origins.now m.zones;
-              stirred = (recording_of W.contents self.old).stirred;
-            })
-            [] (recording_of W.contents self.old) (recording_of W.contents self.new)
-            self.old.notes.now self.new.notes.now }
+            → HasBegun W.contents L.Observer origins.now m.zones self.old self.new }
         ensures none_left { (recording_of W.contents self.new).is_on ≡ true
             → (recording_of W.contents self.new).lines ≡ [] }
     {

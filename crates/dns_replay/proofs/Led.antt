@@ -25,7 +25,7 @@ use Rattle.dns_primary.specs.Runs.{Took, Stopped}
 use Rattle.dns_replay.specs.Commands.{Command, SaysCommand}
 use Rattle.dns_replay.specs.declared.run.After.{After}
 use Rattle.dns_replay.specs.declared.run.After.TheVariants.{GoesOn, NoCommand, Refused}
-use Rattle.dns_replay.specs.Scripts.{Standing, Takes, Stands, machine_of, event_in, tries_in, Commanded, Nothing, Happens, Plans, Led, EventLeads, LeadsByCommand, PlanLeads, Recovers, idle, halted, commanded_by, printed_effects, printed_refusal, printed_stop, recovered_zones}
+use Rattle.dns_replay.specs.Scripts.{Standing, Takes, Stands, machine_of, event_in, tries_in, Commanded, Nothing, Happens, Plans, Led, EventLeads, LeadsByCommand, PlanLeads, CrashLeads, idle, halted, commanded_by, printed_effects, printed_refusal, printed_stop, recovered_zones}
 use Rattle.dns_replay.specs.Keeps.{ZoneKeep}
 use Rattle.dns_replay.specs.Crashes.{AreLeftBy, IsCrash}
 use Rattle.dns_replay.specs.Runs.{AreSame, DoesBy, IsAt, IsOpeningRefused, LeadsOn, LineDoes, crash_by}
@@ -120,7 +120,7 @@ module _ {D I : Type 0} {g : Ghosts D} {i : zone_index.Ghosts I} {s : store.Ghos
       let led : Led = record { moments = Stopped event tries new.0 ∷ []; text = recovered_zones names new.0.zones (length names); standing = Takes new.0 } in
       (led, does stop (new.0, new.1, (crashed, record { before = left; stood = stood; left = each }, new.3), refl), prints new.0 new.2, new.2)
     where
-      does : (stop : Option ℕ) {led : Led} → Recovers names (IsCrash g kept names settings) from keeps led → LeadsByCommand names (IsCrash g kept names settings) from (crash_by keeps stop) led
+      does : (stop : Option ℕ) {led : Led} → CrashLeads names (IsCrash g kept names settings) from keeps led → LeadsByCommand names (IsCrash g kept names settings) from (crash_by keeps stop) led
       does None h = h
       does (Some n) h = inl h
 

@@ -22,7 +22,7 @@ use Rattle.dns_versions.specs.Each.{Each2}
 use Rattle.dns_replay.specs.declared.run.Ending.{Ending}
 use Rattle.dns_replay.specs.declared.run.Ending.TheVariants.{Done, Syntax, Refused}
 use Rattle.dns_replay.proofs.Printing.{appends_more, nothing_more}
-use Rattle.dns_replay.specs.Scripts.{Standing, Takes, Stands, machine_of, Commanded, Nothing, Happens, Plans, Crashes, Reopens, Crash, Led, LeadsByCommand, Recovers, LineLeads, LineRefuses, IsNoCommand, Runs, idle}
+use Rattle.dns_replay.specs.Scripts.{Standing, Takes, Stands, machine_of, Commanded, Nothing, Happens, Plans, Crashes, Reopens, Crash, Led, LeadsByCommand, CrashLeads, LineLeads, LineRefuses, IsNoCommand, Runs, idle}
 use Rattle.dns_replay.specs.Keeps.{ZoneKeep}
 use Rattle.dns_replay.specs.Crashes.{IsCrash}
 use Rattle.dns_replay.specs.Runs.{IsAt, IsMachineReached, LeadsOn, RanScript}
@@ -45,7 +45,7 @@ pub record IsRunning (s : Standing) (led : Led) : Type 0 where
 run_of : (s : Standing) (led is : Led) → led ≡ is → IsRunning s is → IsRunning s led
 run_of s led is e r = subst (λ (l : Led). IsRunning s l) (sym e) r
 
-recovers_runs : (names : List Labels) (crash : Crash) (s : Standing) (keeps : List ZoneKeep) (led : Led) → Recovers names crash s keeps led → IsRunning s led
+recovers_runs : (names : List Labels) (crash : Crash) (s : Standing) (keeps : List ZoneKeep) (led : Led) → CrashLeads names crash s keeps led → IsRunning s led
 recovers_runs names crash (Takes m) keeps led h = run_of (Takes m) led _ h.3 (record { run = (h.1, tt); set = stopped_set 0 m Flush h.0 h.1; last = refl })
 recovers_runs names crash (Stands m event tries) keeps led h = run_of (Stands m event tries) led _ h.3 (record { run = (h.1, tt); set = stopped_set tries m event h.0 h.1; last = refl })
 

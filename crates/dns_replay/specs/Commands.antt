@@ -1,6 +1,6 @@
 -- The commands of a script, and what lines say them.
 use Rattle.std.specs.Prelude.{◌≡◌, ◌^◌, ◌<◌, ◌≤◌, ◌==◌, ℕ, Bool, false, List, [], ◌∷◌, length, map, Ok, Some}
-use Rattle.std.specs.Prelude.{codes, if◌then◌else◌}
+use Rattle.std.specs.Prelude.{MatchOption, Option, codes, if◌then◌else◌}
 use Rattle.std.specs.declared.net.ip_addr.IpAddr.{IpAddr}
 use Rattle.hex.specs.Hex.{decode_of}
 use Rattle.dns_policy.specs.Address.{IsAddress}
@@ -106,3 +106,9 @@ said_command (code_command.Fail n) = Fail n
 said_command (code_command.Stop n) = Stop n
 said_command (code_command.Crash keeps) = Crash (map said_zone_keep keeps.items)
 said_command (code_command.Reopen n keeps) = Reopen n (map said_zone_keep keeps.items)
+
+-- The code reads these words of a line as the command that they say, and as none where they say none.
+abbrev pub IsReadAs : List Labels → List (List ℕ) → Option code.Command → Type 0
+IsReadAs origins line read =
+    MatchOption read ((c : Command) → ¬ (AreWordsOf origins line c))
+    (λ c. AreWordsOf origins line (said_command c))

@@ -1,7 +1,7 @@
 -- Lines and words of a script.
-use Rattle.std.specs.Prelude.{ℕ, suc, ◌==◌, ◌||◌, Bool, nat_lt, List, [], length, filter, map, Option, Some}
-use Rattle.std.specs.Prelude.{None}
-use Rattle.std.specs.List.{slice_split}
+use Rattle.std.specs.Prelude.{◌≡◌, ℕ, suc, ◌==◌, ◌||◌, Bool, nat_lt, List, [], length, filter, map, position}
+use Rattle.std.specs.Prelude.{MatchOption, Option, Some, None}
+use Rattle.std.specs.List.{after_first, before_first, slice_split}
 use Rattle.std.specs.Str.Lines.{strip_carriage_return}
 
 -- Space and tab.
@@ -23,6 +23,13 @@ lines script = map strip_carriage_return (slice_split is_feed script)
 abbrev pub lines_left : Option (List ℕ) → List (List ℕ)
 lines_left None = []
 lines_left (Some rest) = lines rest
+
+-- A text is parted at the first of certain octets: what comes before it, and what comes after; where there is
+-- none, all comes before.
+abbrev pub IsPartedAt : (ℕ → Bool) → List ℕ → List ℕ → Option (List ℕ) → Type 0
+IsPartedAt is_between text front after =
+    MatchOption (position is_between text) ((front ≡ text) × (after ≡ None))
+    (λ _. (front ≡ before_first is_between text) × (after ≡ Some (after_first is_between text)))
 
 -- What is between certain octets of a text, if there is one.
 abbrev pub pieces_left : (ℕ → Bool) → Option (List ℕ) → List (List ℕ)

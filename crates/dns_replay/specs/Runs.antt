@@ -1,5 +1,6 @@
 -- What a script runs over, and what it leads to.
-use Rattle.std.specs.Prelude.{◌≡◌, ℕ, List, ◌++◌, map, slice_get, Option, Some, None, IsSome}
+use Rattle.std.specs.Prelude.{◌≡◌, ℕ, suc, List, ◌++◌, map, slice_get, Option, Some, None, IsSome}
+use Rattle.std.specs.Prelude.{MatchResult, Result}
 use Rattle.std.specs.Io.KnownBytes.{Appends, Keeps}
 use Rattle.dns_names.specs.Name.{Labels}
 use Rattle.dns_zone.specs.Zone.{Zone}
@@ -11,24 +12,28 @@ use Rattle.dns_store.specs.declared.zone_store.ZoneStore as store
 use Rattle.dns_store.specs.declared.kept_store.KeptStore.{KeptStore}
 use Rattle.dns_primary.specs.declared.event.Effects.{Effects}
 use Rattle.dns_primary.specs.declared.event.To.{To}
+use Rattle.dns_primary.specs.declared.open.NotOpened.{NotOpened}
 use Rattle.dns_primary.specs.declared.primary.Primary.{Primary}
 use Rattle.dns_primary.specs.declared.primary.ZoneSpec.{ZoneSpec}
 use Rattle.dns_primary.specs.Machine.{Machine}
 use Rattle.dns_primary.specs.Keeps.{IsKept, header_out, reply_out}
-use Rattle.dns_primary.specs.Open.{AreRecoverable}
+use Rattle.dns_primary.specs.Step.{Event}
+use Rattle.dns_primary.specs.Steps.{SteppedBy}
+use Rattle.dns_primary.specs.Stop.{IsStopped}
+use Rattle.dns_primary.specs.Open.{AreDevicesOf, AreRecoverable}
 use Rattle.dns_primary.specs.HandOut.{AreSetAs}
 use Rattle.dns_primary.specs.Runs.{Moment, Run, last_of}
 use Rattle.dns_primary.specs.Fresh.{IsFresh}
 use Rattle.dns_replay.specs.Keeps.{ZoneKeep}
 use Rattle.dns_replay.specs.Crashes.{IsCrash}
-use Rattle.dns_replay.specs.Scripts.{Standing, Takes, Stands, machine_of, Commanded, Crashes, Reopens, Led}
-use Rattle.dns_replay.specs.Scripts.{LeadsByCommand}
-use Rattle.dns_replay.specs.Scripts.{LineLeads, LineRefuses, IsNoCommand, MayRefuse, Runs, printed_refusal}
-use Rattle.dns_replay.specs.Scripts.{printed_stop}
+use Rattle.dns_replay.specs.Scripts.{Standing, Takes, Stands, event_in, machine_of, tries_in, Commanded}
+use Rattle.dns_replay.specs.Scripts.{Crashes, Reopens, Led, EventLeads, PlanLeads, LeadsByCommand, LineLeads}
+use Rattle.dns_replay.specs.Scripts.{LineRefuses, IsNoCommand, MayRefuse, Runs, printed_refusal, printed_stop}
 use Rattle.dns_store.specs.declared.root.OpenError.{OpenError}
 use Rattle.dns_replay.specs.declared.run.After.{After}
 use Rattle.dns_replay.specs.declared.run.After.TheVariants.{GoesOn, NoCommand, Refused}
 use Rattle.dns_replay.specs.declared.run.Ending.{Ending}
+use Rattle.dns_replay.specs.declared.replay_state.World.{World}
 
 -- The replies of an event in order, as they go out.
 abbrev pub replies_out : Effects → List (To × List ℕ)
@@ -64,6 +69,50 @@ module _ {D I : Type 0} {g : Ghosts D} {i : zone_index.Ghosts I} {s : store.Ghos
         (from : Standing) → IsAt p devices from → AreSetAs names settings (machine_of from).zones
         → (led : Led) × leads from led × Appends out out_after led.text × IsAt q left led.standing
 
+module _ {D I : Type 0} {g : Ghosts D} {i : zone_index.Ghosts I} {s : store.Ghosts (KeptStore D I g)} where
+  -- Of a primary that keeps a machine, between two events, these are the devices.
+  abbrev pub LeavesAtRest : Primary I (KeptStore D I g) i s → List D → Type 0
+  LeavesAtRest p devices =
+      (m : Machine) (event : Event) (names : List Labels) (settings : List ZoneSpec)
+      → IsKept p m → AreSetAs names settings m.zones → AreDevicesOf g 0 m event names settings devices
+
+  -- Of one that stopped within an event these are the devices.
+  abbrev pub LeavesWithin : Primary I (KeptStore D I g) i s → List D → Type 0
+  LeavesWithin p devices =
+      (m : Machine) (event : Event) (before : Primary I (KeptStore D I g) i s) (effects : Effects)
+      (names : List Labels) (settings : List ZoneSpec)
+      → SteppedBy m event before p effects → AreSetAs names settings m.zones
+      → AreDevicesOf g 0 m event names settings devices
+
+  -- Whatever state a script is in, these are the devices of its machine.
+  abbrev pub AreTakenOf : Option (Primary I (KeptStore D I g) i s) → List D → List D → Type 0
+  AreTakenOf p devices taken =
+      (names : List Labels) (settings : List ZoneSpec) (from : Standing)
+      → IsAt names settings p devices from → AreSetAs names settings (machine_of from).zones
+      → AreDevicesOf g (tries_in from) (machine_of from) (event_in from) names settings taken
+
+  -- In a world of these names and settings the stores on devices are opened again: whatever machine stopped
+  -- on them, it recovers; or they are refused, and it was one try more.
+  abbrev pub OpensIn : World → List D → Result (Primary I (KeptStore D I g) i s) (NotOpened D) → Type 0
+  OpensIn world devices opened =
+      (m : Machine) (event : Event) (tries : ℕ)
+      → AreDevicesOf g tries m event world.origins.now world.settings.now devices
+      → MatchResult opened (λ p. (new : Machine) × IsStopped tries m event new × IsKept p new)
+      (λ e. AreDevicesOf g (suc tries) m event world.origins.now world.settings.now e.devices.items)
+
+  -- There an event leads on,
+  abbrev pub EventLeadsIn : World → Event → Option (Primary I (KeptStore D I g) i s) → List D
+      → Option (Primary I (KeptStore D I g) i s) → List D → Option (List ℕ) → Option (List ℕ) → Type 0
+  EventLeadsIn world event p devices q left out out_after =
+      LeadsOn world.origins.now world.settings.now (λ from led. EventLeads world.origins.now from event led)
+      p devices q left out out_after
+
+  -- and a plan, which changes nothing else.
+  abbrev pub PlanLeadsIn : World → Option (Primary I (KeptStore D I g) i s) → List D → Option (List ℕ)
+      → Option (List ℕ) → Type 0
+  PlanLeadsIn world p devices out out_after =
+      LeadsOn world.origins.now world.settings.now PlanLeads p devices p devices out out_after
+
 -- A store was refused, as is printed.
 pub record RefusesStore (origins : List Labels) (out out_after : Option (List ℕ)) : Type 0 where
   pub index : ℕ
@@ -91,6 +140,12 @@ module _ {D I : Type 0} {g : Ghosts D} {i : zone_index.Ghosts I} {s : store.Ghos
       MayRefuse said × RefusesStore names out out_after
   DoesBy names settings said p devices q left out out_after NoCommand = ⊥
 
+  -- The same in a world of names and settings.
+  abbrev pub DoesIn : World → Commanded → Option (Primary I (KeptStore D I g) i s) → List D
+      → Option (Primary I (KeptStore D I g) i s) → List D → Option (List ℕ) → Option (List ℕ) → After → Type 0
+  DoesIn world said p devices q left out out_after after =
+      DoesBy world.origins.now world.settings.now said p devices q left out out_after after
+
   abbrev pub LineDoes : List Labels → List ZoneSpec → List ℕ
       → Option (Primary I (KeptStore D I g) i s) → List D
       → Option (Primary I (KeptStore D I g) i s) → List D → Option (List ℕ) → Option (List ℕ) → After → Type 0
@@ -116,9 +171,9 @@ pub record IsMachineReached (names : List Labels) (settings : List ZoneSpec) (m 
 
 -- From each such machine that the primary kept, the lines lead there, by moments that are a run of the
 -- machine.
-abbrev pub RanScript : {D I : Type 0} {g : Ghosts D} {i : zone_index.Ghosts I} {s : store.Ghosts (KeptStore D I g)}
-    → (D → told.Keep → Content) → List Labels → List ZoneSpec → List (List ℕ) → Ending
-    → Primary I (KeptStore D I g) i s → Option (List ℕ) → Option (List ℕ) → Type 0
+abbrev pub RanScript : {D I : Type 0} {g : Ghosts D} {i : zone_index.Ghosts I}
+    {s : store.Ghosts (KeptStore D I g)} → (D → told.Keep → Content) → List Labels → List ZoneSpec
+    → List (List ℕ) → Ending → Primary I (KeptStore D I g) i s → Option (List ℕ) → Option (List ℕ) → Type 0
 RanScript {g} kept names settings lines ending primary out out_after =
     (start : Machine) → IsMachineReached names settings start → IsKept primary start
     → (led : Led) × Runs names (IsCrash g kept names settings) (Takes start) 1 lines led ending

@@ -196,8 +196,8 @@ abbrev pub Crash : Type 1
 Crash = Standing → List ZoneKeep → Option Machine → Type 0
 
 -- A crash, and the stores are opened again: the machine stopped, and recovered.
-abbrev pub Recovers : List Labels → Crash → Standing → List ZoneKeep → Led → Type 0
-Recovers origins crash s keeps led =
+abbrev pub CrashLeads : List Labels → Crash → Standing → List ZoneKeep → Led → Type 0
+CrashLeads origins crash s keeps led =
     (next : Machine) × IsStopped (tries_in s) (machine_of s) (event_in s) next × crash s keeps (Some next)
     × (led ≡ record {
       moments = Stopped (event_in s) (tries_in s) next ∷ [];
@@ -214,9 +214,9 @@ abbrev pub LeadsByCommand : List Labels → Crash → Standing → Commanded →
 LeadsByCommand origins crash s Nothing led = led ≡ idle s
 LeadsByCommand origins crash s (Happens event) led = EventLeads origins s event led
 LeadsByCommand origins crash s Plans led = PlanLeads s led
-LeadsByCommand origins crash s (Crashes keeps) led = Recovers origins crash s keeps led
+LeadsByCommand origins crash s (Crashes keeps) led = CrashLeads origins crash s keeps led
 LeadsByCommand origins crash s (Reopens keeps) led =
-    Recovers origins crash s keeps led
+    CrashLeads origins crash s keeps led
     ⊎ (crash s keeps None × (led ≡ halted (machine_of s) (event_in s) (suc (tries_in s))))
 
 -- What a command may end: a store is refused after a crash.

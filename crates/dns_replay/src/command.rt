@@ -1,8 +1,7 @@
 //! The commands of a script, one a line.
 ghost use Rattle.std.specs.Prelude.{◌≡◌, ℕ, List, ◌∷◌, MatchOption, IfOk, Some, codes};
 ghost use Rattle.dns_names.specs.Name.{Labels};
-ghost use Rattle.dns_replay.specs.Commands.{AreWordsOf, Command as Stated, HasOctets, IsCount};
-ghost use Rattle.dns_replay.specs.Commands.{SaysCommand, is_comment, said_command};
+ghost use Rattle.dns_replay.specs.Commands.{HasOctets, IsCount, IsReadAs, is_comment, spoken};
 ghost use Rattle.dns_replay.specs.Lines.{words};
 
 use crate::keeps::{ZoneKeep, keeps, place_named};
@@ -62,9 +61,7 @@ fn octets(alloc: Heap, text: &[u8]) -> Result<Option<Vec<u8, Heap>>, AllocError>
 
 /// The command whose words are `udp` and these.
 fn datagram(alloc: Heap, rest: &[u8]) -> Result<Option<Command>, AllocError>
-    ensures { (origins : List Labels) → IfOk result
-        (λ read. MatchOption read ((c : Stated) → ¬ (AreWordsOf origins (codes "udp" ∷ words rest.now) c))
-        (λ c. AreWordsOf origins (codes "udp" ∷ words rest.now) (said_command c))) }
+    ensures { (origins : List Labels) → IfOk result (IsReadAs origins (codes "udp" ∷ words rest.now)) }
 {
     let Some((peer, text)) = two_words(rest) else {
         return Ok(None);
@@ -80,9 +77,7 @@ fn datagram(alloc: Heap, rest: &[u8]) -> Result<Option<Command>, AllocError>
 
 /// The command whose words are `tcp` and these.
 fn message(alloc: Heap, rest: &[u8]) -> Result<Option<Command>, AllocError>
-    ensures { (origins : List Labels) → IfOk result
-        (λ read. MatchOption read ((c : Stated) → ¬ (AreWordsOf origins (codes "tcp" ∷ words rest.now) c))
-        (λ c. AreWordsOf origins (codes "tcp" ∷ words rest.now) (said_command c))) }
+    ensures { (origins : List Labels) → IfOk result (IsReadAs origins (codes "tcp" ∷ words rest.now)) }
 {
     let Some((digits, text)) = two_words(rest) else {
         return Ok(None);
@@ -98,9 +93,7 @@ fn message(alloc: Heap, rest: &[u8]) -> Result<Option<Command>, AllocError>
 
 /// The command whose words are `connect` and these.
 fn connect(rest: &[u8]) -> Option<Command>
-    ensures { (origins : List Labels)
-        → MatchOption result ((c : Stated) → ¬ (AreWordsOf origins (codes "connect" ∷ words rest.now) c))
-        (λ c. AreWordsOf origins (codes "connect" ∷ words rest.now) (said_command c)) }
+    ensures { (origins : List Labels) → IsReadAs origins (codes "connect" ∷ words rest.now) result }
 {
     let peer = address(only_word(rest)?)?;
     Some(Command::Connect(peer))
@@ -108,9 +101,7 @@ fn connect(rest: &[u8]) -> Option<Command>
 
 /// The command whose words are `close` and these.
 fn close(rest: &[u8]) -> Option<Command>
-    ensures { (origins : List Labels)
-        → MatchOption result ((c : Stated) → ¬ (AreWordsOf origins (codes "close" ∷ words rest.now) c))
-        (λ c. AreWordsOf origins (codes "close" ∷ words rest.now) (said_command c)) }
+    ensures { (origins : List Labels) → IsReadAs origins (codes "close" ∷ words rest.now) result }
 {
     let connection = number(only_word(rest)?)?;
     Some(Command::Close(connection))
@@ -118,9 +109,7 @@ fn close(rest: &[u8]) -> Option<Command>
 
 /// The command whose words are `pump` and these.
 fn pump(rest: &[u8]) -> Option<Command>
-    ensures { (origins : List Labels)
-        → MatchOption result ((c : Stated) → ¬ (AreWordsOf origins (codes "pump" ∷ words rest.now) c))
-        (λ c. AreWordsOf origins (codes "pump" ∷ words rest.now) (said_command c)) }
+    ensures { (origins : List Labels) → IsReadAs origins (codes "pump" ∷ words rest.now) result }
 {
     let connection = number(only_word(rest)?)?;
     Some(Command::Pump(connection))
@@ -128,9 +117,7 @@ fn pump(rest: &[u8]) -> Option<Command>
 
 /// The command whose words are `flush` and these.
 fn flush(rest: &[u8]) -> Option<Command>
-    ensures { (origins : List Labels)
-        → MatchOption result ((c : Stated) → ¬ (AreWordsOf origins (codes "flush" ∷ words rest.now) c))
-        (λ c. AreWordsOf origins (codes "flush" ∷ words rest.now) (said_command c)) }
+    ensures { (origins : List Labels) → IsReadAs origins (codes "flush" ∷ words rest.now) result }
 {
     match first_word(rest) {
         Some(_) => None,
@@ -151,9 +138,7 @@ fn count(text: &[u8]) -> Option<u32>
 
 /// The command whose words are `fail` and these.
 fn fail(rest: &[u8]) -> Option<Command>
-    ensures { (origins : List Labels)
-        → MatchOption result ((c : Stated) → ¬ (AreWordsOf origins (codes "fail" ∷ words rest.now) c))
-        (λ c. AreWordsOf origins (codes "fail" ∷ words rest.now) (said_command c)) }
+    ensures { (origins : List Labels) → IsReadAs origins (codes "fail" ∷ words rest.now) result }
 {
     let n = count(only_word(rest)?)?;
     Some(Command::Fail(n))
@@ -161,9 +146,7 @@ fn fail(rest: &[u8]) -> Option<Command>
 
 /// The command whose words are `stop` and these.
 fn stop(rest: &[u8]) -> Option<Command>
-    ensures { (origins : List Labels)
-        → MatchOption result ((c : Stated) → ¬ (AreWordsOf origins (codes "stop" ∷ words rest.now) c))
-        (λ c. AreWordsOf origins (codes "stop" ∷ words rest.now) (said_command c)) }
+    ensures { (origins : List Labels) → IsReadAs origins (codes "stop" ∷ words rest.now) result }
 {
     let n = count(only_word(rest)?)?;
     Some(Command::Stop(n))
@@ -171,10 +154,7 @@ fn stop(rest: &[u8]) -> Option<Command>
 
 /// The command whose words are `checkpoint` and these.
 fn checkpoint(alloc: Heap, origins: &[Name], rest: &[u8]) -> Result<Option<Command>, AllocError>
-    ensures { IfOk result
-        (λ read. MatchOption read
-        ((c : Stated) → ¬ (AreWordsOf origins.now (codes "checkpoint" ∷ words rest.now) c))
-        (λ c. AreWordsOf origins.now (codes "checkpoint" ∷ words rest.now) (said_command c))) }
+    ensures { IfOk result (IsReadAs origins.now (codes "checkpoint" ∷ words rest.now)) }
 {
     let Some(origin) = only_word(rest) else {
         return Ok(None);
@@ -187,10 +167,7 @@ fn checkpoint(alloc: Heap, origins: &[Name], rest: &[u8]) -> Result<Option<Comma
 
 /// The command whose words are `crash` and these.
 fn crash(alloc: Heap, origins: &[Name], rest: &[u8]) -> Result<Option<Command>, AllocError>
-    ensures { IfOk result
-        (λ read. MatchOption read
-        ((c : Stated) → ¬ (AreWordsOf origins.now (codes "crash" ∷ words rest.now) c))
-        (λ c. AreWordsOf origins.now (codes "crash" ∷ words rest.now) (said_command c))) }
+    ensures { IfOk result (IsReadAs origins.now (codes "crash" ∷ words rest.now)) }
 {
     match keeps(alloc, origins, rest)? {
         Some(keeps) => Ok(Some(Command::Crash(keeps))),
@@ -200,10 +177,7 @@ fn crash(alloc: Heap, origins: &[Name], rest: &[u8]) -> Result<Option<Command>, 
 
 /// The command whose words are `reopen` and these.
 fn reopen(alloc: Heap, origins: &[Name], rest: &[u8]) -> Result<Option<Command>, AllocError>
-    ensures { IfOk result
-        (λ read. MatchOption read
-        ((c : Stated) → ¬ (AreWordsOf origins.now (codes "reopen" ∷ words rest.now) c))
-        (λ c. AreWordsOf origins.now (codes "reopen" ∷ words rest.now) (said_command c))) }
+    ensures { IfOk result (IsReadAs origins.now (codes "reopen" ∷ words rest.now)) }
 {
     let Some((digits, after)) = first_word(rest) else {
         return Ok(None);
@@ -224,9 +198,7 @@ fn command_of(
     verb: &[u8],
     rest: &[u8],
 ) -> Result<Option<Command>, AllocError>
-    ensures { IfOk result
-        (λ read. MatchOption read ((c : Stated) → ¬ (AreWordsOf origins.now (verb.now ∷ words rest.now) c))
-        (λ c. AreWordsOf origins.now (verb.now ∷ words rest.now) (said_command c))) }
+    ensures { IfOk result (IsReadAs origins.now (verb.now ∷ words rest.now)) }
 {
     if verb == b"udp".as_slice() {
         return datagram(alloc, rest);
@@ -278,9 +250,7 @@ pub fn read_command(
     origins: &[Name],
     line: &[u8],
 ) -> Result<Option<Command>, AllocError>
-    ensures { IfOk result
-        (λ read. MatchOption read ((c : Stated) → ¬ (SaysCommand origins.now line.now c))
-        (λ c. SaysCommand origins.now line.now (said_command c))) }
+    ensures { IfOk result (IsReadAs origins.now (spoken line.now)) }
 {
     if is_comment(line) {
         return Ok(Some(Command::Nothing));

@@ -1,10 +1,10 @@
 //! Lines and words of a script.
 ghost use Rattle.std.specs.Prelude.{◌≡◌, ◌≢◌, ◌==◌, ◌<◌, ◌≤◌, ℕ, List, [], ◌∷◌, length, position};
-ghost use Rattle.std.specs.Prelude.{MatchOption, Some, None};
+ghost use Rattle.std.specs.Prelude.{MatchOption};
 ghost use Rattle.std.specs.Option.{option_copied};
 ghost use Rattle.std.specs.Str.Lines.{strip_carriage_return};
 ghost use Rattle.std.specs.List.{after_first, before_first, slice_split};
-ghost use Rattle.dns_replay.specs.Lines.{is_blank, lines, lines_left, pieces_left, room, words};
+ghost use Rattle.dns_replay.specs.Lines.{IsPartedAt, is_blank, lines, lines_left, pieces_left, room, words};
 
 /// A space or a tab.
 fn is_blank(octet: u8) -> bool
@@ -78,10 +78,7 @@ fn first_at(text: &[u8], octet: u8) -> Option<usize>
 
 /// What comes before it, and after it if there is one.
 fn parted_at(text: &[u8], octet: u8) -> (&[u8], Option<&[u8]>)
-    ensures { MatchOption (position (λ c. c == octet) text.now)
-        ((result.0.now ≡ text.now) × (option_copied result.1 ≡ None))
-        (λ _. (result.0.now ≡ before_first (λ c. c == octet) text.now)
-        × (option_copied result.1 ≡ Some (after_first (λ c. c == octet) text.now))) }
+    ensures { IsPartedAt (λ c. c == octet) text.now result.0.now (option_copied result.1) }
 {
     match first_at(text, octet) {
         Some(end) => (&text[..end], Some(&text[end + 1..])),
@@ -91,10 +88,7 @@ fn parted_at(text: &[u8], octet: u8) -> (&[u8], Option<&[u8]>)
 
 /// What comes before the first octet of that value, and after it if there is one.
 pub(crate) fn cut_at(text: &[u8], octet: u8) -> (&[u8], Option<&[u8]>)
-    ensures parts { MatchOption (position (λ c. c == octet) text.now)
-        ((result.0.now ≡ text.now) × (option_copied result.1 ≡ None))
-        (λ _. (result.0.now ≡ before_first (λ c. c == octet) text.now)
-        × (option_copied result.1 ≡ Some (after_first (λ c. c == octet) text.now))) }
+    ensures parts { IsPartedAt (λ c. c == octet) text.now result.0.now (option_copied result.1) }
     ensures pieces { slice_split (λ c. c == octet) text.now
         ≡ result.0.now ∷ pieces_left (λ c. c == octet) (option_copied result.1) }
     ensures less { room (option_copied result.1) ≤ length text.now }

@@ -1,22 +1,12 @@
 //! What a script runs over, and crashes of it.
-ghost use Rattle.std.specs.Prelude.{◌≡◌, ◌==◌, ℕ, suc, true, List, Some, None, find, map, IsSome, IfOk};
-ghost use Rattle.std.specs.Prelude.{MatchResult};
+ghost use Rattle.std.specs.Prelude.{◌≡◌, ◌==◌, true, Some, None, find, map, IsSome, IfOk};
 ghost use Rattle.std.specs.Option.{option_copied};
-ghost use Rattle.dns_names.specs.Name.{Labels};
 ghost use Rattle.dns_versions.specs.Each.{Each2};
-ghost use Rattle.dns_primary.specs.declared.event.Effects.{Effects as StatedEffects};
-ghost use Rattle.dns_primary.specs.declared.primary.ZoneSpec.{ZoneSpec as StatedSettings};
-ghost use Rattle.dns_primary.specs.Machine.{Machine};
-ghost use Rattle.dns_primary.specs.Step.{Event as StatedEvent};
-ghost use Rattle.dns_primary.specs.Steps.{SteppedBy, event_shown};
-ghost use Rattle.dns_primary.specs.Stop.{IsStopped};
-ghost use Rattle.dns_primary.specs.Keeps.{IsKept};
-ghost use Rattle.dns_primary.specs.Open.{AreRecoverable};
-ghost use Rattle.dns_primary.specs.HandOut.{AreSetAs};
+ghost use Rattle.dns_primary.specs.Steps.{event_shown};
 ghost use Rattle.dns_replay.specs.Commands.{said_keep, said_zone_keep};
 ghost use Rattle.dns_replay.specs.Crashes.{AreLeftBy, IsToldAs, keep_at};
-ghost use Rattle.dns_replay.specs.Scripts.{EventLeads, Standing as Stated, event_in, machine_of, tries_in};
-ghost use Rattle.dns_replay.specs.Runs.{AreSame, DoesBy, IsAt, IsOpeningRefused, LeadsOn, crash_by};
+ghost use Rattle.dns_replay.specs.Runs.{AreSame, AreTakenOf, DoesIn, EventLeadsIn, IsOpeningRefused};
+ghost use Rattle.dns_replay.specs.Runs.{LeavesAtRest, LeavesWithin, OpensIn, crash_by};
 
 use crate::device::ScriptDevice;
 use crate::events::happen;
@@ -124,12 +114,7 @@ fn open_again<D: ScriptDevice, I: ZoneIndex>(
     world: World<'_>,
     devices: Vec<D, Heap>,
 ) -> Result<Result<Primary<I, KeptStore<D, I>>, NotOpened<D>>, AllocError>
-    ensures { IfOk result (λ opened. (m : Machine) (event : StatedEvent) (tries : ℕ)
-        → AreRecoverable D.Sectors tries m event 0 m.zones world.entry.origins.now world.entry.settings.now
-        devices.entry.items
-        → MatchResult opened (λ p. (new : Machine) × IsStopped tries m event new × IsKept p new)
-        (λ e. AreRecoverable D.Sectors (suc tries) m event 0 m.zones world.entry.origins.now
-        world.entry.settings.now e.devices.items)) }
+    ensures { IfOk result (OpensIn world.entry devices.entry.items) }
 {
     let settings = settings_again(world.heap, world.settings)?;
     if devices.len() != settings.len() || world.origins.len() != settings.len() {
@@ -147,8 +132,7 @@ fn run_step<D: ScriptDevice, I: ZoneIndex, W: Write>(
     event: Event<'_>,
     out: &mut W,
 ) -> io::Result<Option<Primary<I, KeptStore<D, I>>>>
-    ensures { IfOk result (λ next. LeadsOn world.entry.origins.now world.entry.settings.now
-        (λ s led. EventLeads world.entry.origins.now s (event_shown event.entry) led)
+    ensures { IfOk result (λ next. EventLeadsIn world.entry (event_shown event.entry)
         (Some running) devices.old.items next devices.new.items
         (W.contents out.old) (W.contents out.new)) }
 {
@@ -174,8 +158,7 @@ pub(crate) fn run_event<D: ScriptDevice, I: ZoneIndex, W: Write>(
     out: &mut W,
 ) -> io::Result<After>
     ensures { IfOk result (λ after. (after ≡ After.GoesOn)
-        × LeadsOn world.entry.origins.now world.entry.settings.now
-        (λ s led. EventLeads world.entry.origins.now s (event_shown event.entry) led)
+        × EventLeadsIn world.entry (event_shown event.entry)
         primary.old devices.old.items primary.new devices.new.items
         (W.contents out.old) (W.contents out.new)) }
 {
@@ -199,12 +182,7 @@ fn take_devices<D: ScriptDevice, I: ZoneIndex>(
     devices: &mut Vec<D, Heap>,
 ) -> Result<Vec<D, Heap>, AllocError>
     ensures taken { primary.new ≡ None }
-    ensures recoverable { IfOk result
-        (λ left. (names : List Labels) (settings : List StatedSettings) (s : Stated)
-        → IsAt names settings primary.old devices.old.items s
-        → AreSetAs names settings (machine_of s).zones
-        → AreRecoverable D.Sectors (tries_in s) (machine_of s) (event_in s) 0
-        (machine_of s).zones names settings left.items) }
+    ensures recoverable { IfOk result (λ left. AreTakenOf primary.old devices.old.items left.items) }
 {
     match primary.take() {
         Some(running) => {
@@ -225,8 +203,7 @@ pub(crate) fn crash<D: ScriptDevice, I: ZoneIndex, W: Write>(
     keeps: &[ZoneKeep],
     out: &mut W,
 ) -> io::Result<After>
-    ensures { IfOk result (DoesBy D.left_by world.entry.origins.now world.entry.settings.now
-        (crash_by (map said_zone_keep keeps.now) stop)
+    ensures { IfOk result (DoesIn D.left_by world.entry (crash_by (map said_zone_keep keeps.now) stop)
         primary.old devices.old.items primary.new devices.new.items
         (W.contents out.old) (W.contents out.new)) }
 {
@@ -284,14 +261,8 @@ fn devices_of<D: ScriptDevice, I: ZoneIndex>(
     alloc: Heap,
     primary: Primary<I, KeptStore<D, I>>,
 ) -> Result<Vec<D, Heap>, AllocError>
-    ensures at_rest { IfOk result (λ devices. (m : Machine) (event : StatedEvent) (names : List Labels)
-        (settings : List StatedSettings) → IsKept primary m → AreSetAs names settings m.zones
-        → AreRecoverable D.Sectors 0 m event 0 m.zones names settings devices.items) }
-    ensures within { IfOk result
-        (λ devices. (m : Machine) (event : StatedEvent) (before : _) (effects : StatedEffects)
-        (names : List Labels) (settings : List StatedSettings)
-        → SteppedBy m event before primary effects → AreSetAs names settings m.zones
-        → AreRecoverable D.Sectors 0 m event 0 m.zones names settings devices.items) }
+    ensures at_rest { IfOk result (λ devices. LeavesAtRest primary devices.items) }
+    ensures within { IfOk result (λ devices. LeavesWithin primary devices.items) }
 {
     let mut devices = Vec::with_capacity(alloc, primary.zone_count())?;
     primary.into_devices(&mut devices);

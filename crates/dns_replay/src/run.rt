@@ -2,8 +2,8 @@
 ghost use Rattle.std.specs.Prelude.{◌≡◌, ◌≢◌, IfOk};
 ghost use Rattle.dns_replay.specs.Commands.{said_command};
 ghost use Rattle.dns_replay.specs.Lines.{lines};
-ghost use Rattle.dns_replay.specs.Scripts.{PlanLeads, peer_of, commanded_by};
-ghost use Rattle.dns_replay.specs.Runs.{DoesBy, LeadsOn, LineDoes, RanScript};
+ghost use Rattle.dns_replay.specs.Scripts.{peer_of, commanded_by};
+ghost use Rattle.dns_replay.specs.Runs.{DoesIn, LineDoes, PlanLeadsIn, RanScript};
 
 use crate::command::{Command, read_command};
 use crate::device::ScriptDevice;
@@ -76,9 +76,7 @@ fn run_plan<D: ScriptDevice, I: ZoneIndex, W: Write>(
     out: &mut W,
 ) -> io::Result<After>
     ensures { (devices : _) → IfOk result (λ after. (after ≡ After.GoesOn)
-        × LeadsOn world.entry.origins.now world.entry.settings.now PlanLeads
-        primary.now devices primary.now devices
-        (W.contents out.old) (W.contents out.new)) }
+        × PlanLeadsIn world.entry primary.now devices (W.contents out.old) (W.contents out.new)) }
 {
     match primary {
         None => {
@@ -100,9 +98,7 @@ fn run_command<D: ScriptDevice, I: ZoneIndex, W: Write>(
     command: &Command,
     out: &mut W,
 ) -> io::Result<After>
-    ensures { IfOk result
-        (DoesBy D.left_by world.entry.origins.now world.entry.settings.now
-        (commanded_by (said_command command.now))
+    ensures { IfOk result (DoesIn D.left_by world.entry (commanded_by (said_command command.now))
         primary.old devices.old.items primary.new devices.new.items
         (W.contents out.old) (W.contents out.new)) }
 {

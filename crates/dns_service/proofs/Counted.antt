@@ -33,7 +33,7 @@ use Rattle.dns_network.proofs.Running.{turns_run}
 use Rattle.dns_network.proofs.Steps.{step_more}
 use Rattle.dns_counters.specs.Counters.{counted, no_counts, with_report, with_reports}
 use Rattle.dns_counters.specs.Lines.{counts_told}
-use Rattle.dns_counters.specs.Telling.{IsTold, is_due}
+use Rattle.dns_counters.specs.Telling.{IsToldIfDue, is_due}
 use Rattle.dns_counters.specs.declared.counters.Counters.{Counters}
 use Rattle.dns_counters.specs.declared.counting.Counting.{Counting}
 use Rattle.dns_service.specs.Counting.{AreCountedTurns, all_of, counting_after}
@@ -46,7 +46,7 @@ none_due : (now every next : ℕ) → true ≡ is_due now every next → every �
 none_due now every next due none = let clash : true ≡ false = due ∙ ap (λ (x : ℕ). not (x == 0) && nat_le next now) none in absurd (cc clash)
 
 -- What was told, if it could be written.
-pub told_after : {E : Type 0} (r : Result Bool E) (now every next : ℕ) (told same : Type 0) → is_ok r ≡ true → IsTold r told same → IfOk r (λ due. due ≡ is_due now every next)
+pub told_after : {E : Type 0} (r : Result Bool E) (now every next : ℕ) (told same : Type 0) → is_ok r ≡ true → IsToldIfDue r told same → IfOk r (λ due. due ≡ is_due now every next)
     → same ⊎ ((every ≡ 0 → ⊥) × told)
 told_after (Ok true) now every next told same is h due = inr (none_due now every next due, h)
 told_after (Ok false) now every next told same is h due = inl h

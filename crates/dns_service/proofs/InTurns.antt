@@ -24,7 +24,7 @@ use Rattle.dns_network.specs.Steps.{AreSteps}
 use Rattle.dns_network.specs.Turn.{TurnMoment, Asks, Moves, Connects, Refuses, Happens, Closes}
 use Rattle.dns_network.specs.Turn.{AreMoments, EventComes, HasAsked, HasHappened, IsCauseNoted, IsMoment, IsPlaced}
 use Rattle.dns_network.specs.Turns.{AreDone, AreTurns, IsRound}
-use Rattle.dns_service.specs.Carried.{IsCutFrom, datagrams_from, datagrams_to, sent_in_moment, sent_in_turns, told_in_moment, told_in_turns}
+use Rattle.dns_service.specs.Carried.{IsCutFrom, datagrams_of_event, datagrams_of_reply, sent_in_moment, sent_in_turns, told_in_moment, told_in_turns}
 use Rattle.dns_service.specs.DatagramSockets.{AreInOrder, HaveBrought, HaveCarried, of_address}
 use Rattle.dns_service.specs.declared.system.DatagramCalls.{Ghosts}
 use Rattle.dns_service.specs.declared.udp.Udp.{Udp}
@@ -139,7 +139,7 @@ module _ {C : Type 0} (c : Ghosts C) where
         go (inr (there, noted)) = ap view noted.rest
 
     sent_carries : (going : To) (reply : List ℕ) (cut : Bool) (old new : Served I D S N L i d) → IsSent n l going reply cut old new
-        → Carries (datagrams_to going reply) [] (view old) (view new)
+        → Carries (datagrams_of_reply going reply) [] (view old) (view new)
     sent_carries (to.Address peer) reply false old new h =
         one_sent (reply, peer) (view old) (view new) (passes.sends old.network new.network peer reply h.1)
     sent_carries (to.Address peer) reply true old new h = absurd h
@@ -149,7 +149,7 @@ module _ {C : Type 0} (c : Ghosts C) where
     sent_carries to.Nowhere reply true old new h = absurd h
 
     came_carries : (now : ℕ) (event : events.Event) (old given : Served I D S N L i d) → EventComes n now event old given
-        → Carries [] (datagrams_from event) (view old) (view given)
+        → Carries [] (datagrams_of_event event) (view old) (view given)
     came_carries now (events.Datagram peer octets) old given h =
         one_came (octets, peer) (view old) (view given) (passes.receives old.network given.network (Some (octets, peer)) h.1)
     came_carries now (events.Arrives number message) old given (e, f, there, handed, set) = no_more (view old) (view given) (ap view set)
@@ -160,22 +160,22 @@ module _ {C : Type 0} (c : Ghosts C) where
     came_carries now (events.Closed number) old given h = absurd h
 
     going_carries : (goings : List Going) (old new : Served I D S N L i d) → AreGoing n l goings old new
-        → Carries (flat_map (λ going. datagrams_to going.to going.octets) goings) [] (view old) (view new)
+        → Carries (flat_map (λ going. datagrams_of_reply going.to going.octets) goings) [] (view old) (view new)
     going_carries goings old new is =
-        subst (λ (told : List Datagram). Carries (flat_map (λ going. datagrams_to going.to going.octets) goings) told (view old) (view new)) (none_told goings)
-        (steps_carry view (λ x one y. IsSent n l one.to one.octets one.cut x y) (λ going. datagrams_to going.to going.octets) (λ going. no_datagrams)
+        subst (λ (told : List Datagram). Carries (flat_map (λ going. datagrams_of_reply going.to going.octets) goings) told (view old) (view new)) (none_told goings)
+        (steps_carry view (λ x one y. IsSent n l one.to one.octets one.cut x y) (λ going. datagrams_of_reply going.to going.octets) (λ going. no_datagrams)
         (λ x one y h. sent_carries one.to one.octets one.cut x y h) goings old new is)
 
     happened_carries : (now : ℕ) (event : events.Event) (effects : Effects) (goings : List Going) (old new : Served I D S N L i d) → HasHappened n l now event effects goings old new
-        → Carries (flat_map (λ going. datagrams_to going.to going.octets) goings) (datagrams_from event) (view old) (view new)
+        → Carries (flat_map (λ going. datagrams_of_reply going.to going.octets) goings) (datagrams_of_event event) (view old) (view new)
     happened_carries now event effects goings old new h =
-        let out = flat_map (λ (going : Going). datagrams_to going.to going.octets) goings in
-        let came : Carries [] (datagrams_from event) (view old) (view h.told) =
-        subst (λ (x : List (Datagrams (Udp C))). Carries [] (datagrams_from event) (view old) x) (sym (ap view h.rest)) (came_carries now event old h.given h.is_given) in
+        let out = flat_map (λ (going : Going). datagrams_of_reply going.to going.octets) goings in
+        let came : Carries [] (datagrams_of_event event) (view old) (view h.told) =
+        subst (λ (x : List (Datagrams (Udp C))). Carries [] (datagrams_of_event event) (view old) x) (sym (ap view h.rest)) (came_carries now event old h.given h.is_given) in
         let went : Carries out [] (view h.told) (view new) =
         subst (λ (x : List (Datagrams (Udp C))). Carries out [] (view h.told) x) (sym (ap view h.happened.rest)) (going_carries goings h.told h.happened.between h.happened.sent) in
-        subst (λ (told : List Datagram). Carries out told (view old) (view new)) (append-nil (datagrams_from event))
-        (carries_on [] (datagrams_from event) out [] (view old) (view h.told) (view new) came went)
+        subst (λ (told : List Datagram). Carries out told (view old) (view new)) (append-nil (datagrams_of_event event))
+        (carries_on [] (datagrams_of_event event) out [] (view old) (view h.told) (view new) came went)
 
     placed_same : (now : ℕ) (stream : S) (accepted : Option ℕ) (old new : Served I D S N L i d) (asked : N) → IsPlaced n now stream accepted asked new.network old.connections new.connections
         → view new ≡ sockets asked

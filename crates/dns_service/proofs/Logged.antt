@@ -19,7 +19,7 @@ use Rattle.dns_service.specs.Log.{IsLogged, IsLogOf, IsSaid, Known, Logged, list
 use Rattle.dns_recording.specs.Script.{zone_comments}
 use Rattle.dns_service.specs.Counting.{AreCountsOf}
 use Rattle.dns_service.specs.ServedTurns.{HasTurned, OfRun}
-use Rattle.dns_service.specs.Telling.{AreScripted, AreTold, Telling, Texts}
+use Rattle.dns_service.specs.Telling.{AreScripted, AreTurnsTold, Telling, Texts}
 use Rattle.dns_service.proofs.Turned.{turned_so}
 
 -- What is written out comes after what was said.
@@ -103,10 +103,10 @@ pub has_listened : {L M : Type 0} {l : notes.Ghosts L} {count : ℕ} {after : Of
     → names first ≡ t.origins → hushed first ≡ t.is_quiet
     → (err out : Option (List ℕ)) → Appends err (state first).written (listening_lines t.addresses) → BeginsLog (state first)
     → failed last ≡ false → Appends (state last).written out (state last).lines → (mark first ≡ mark last → err_after ≡ out) → out_end ≡ out_after
-    → HasTurned count (λ turns m. AreTold t [] m turns (record { output = out_before; log = err; script = script }) (record { output = out_end; log = err_after; script = script_after })) keeps after
+    → HasTurned count (λ turns m. AreTurnsTold t [] m turns (record { output = out_before; log = err; script = script }) (record { output = out_end; log = err_after; script = script_after })) keeps after
 has_listened {l = l} {keeps = keeps} {first = first} {last = last} {script = script} {script_after = script_after} {err_after = err_after} {out_before = out_before} {out_after = out_after} {out_end = out_end} t is mark names hushed failed state taken_so observed_so named quiet err out said begins whole written at ended =
     turned_so (λ turns m. AreScripted l t.is_recorded (zone_comments t.origins m.zones) script script_after turns first last × AreCountsOf t.count_every t.origins m turns out_before out_after)
-    (λ turns m. AreTold t [] m turns (record { output = out_before; log = err; script = script }) (record { output = out_end; log = err_after; script = script_after })) keeps is
+    (λ turns m. AreTurnsTold t [] m turns (record { output = out_before; log = err; script = script }) (record { output = out_end; log = err_after; script = script_after })) keeps is
     (λ turns m kept both.
     let are = both.0 in
     let so = told_logged l mark names hushed failed state (reported_so l mark names hushed failed state taken_so observed_so) t.addresses err out err_after first last are.told said begins whole written at are.handed in
@@ -155,13 +155,13 @@ lines_more origins other zones index lt =
 -- What is told of turns, after the lines of the zones.
 pub after_zones : {E : Type 0} (r : Result ℕ E) (t : Telling) (count : ℕ) (err between output script : Option (List ℕ)) (texts : Texts) (keeps : Machine → Type 0) (after : OfRun)
     → ((m : Machine) → keeps m → Appends err between (zone_lines t.origins m.zones))
-    → IfOk r (λ status. (status ≡ 3) ⊎ ((status ≡ 0) × HasTurned count (λ turns m. AreTold t [] m turns (record { output = output; log = between; script = script }) texts) keeps after))
-    → IfOk r (λ status. (status ≡ 3) ⊎ ((status ≡ 0) × HasTurned count (λ turns m. AreTold t (zone_lines t.origins m.zones) m turns (record { output = output; log = err; script = script }) texts) keeps after))
+    → IfOk r (λ status. (status ≡ 3) ⊎ ((status ≡ 0) × HasTurned count (λ turns m. AreTurnsTold t [] m turns (record { output = output; log = between; script = script }) texts) keeps after))
+    → IfOk r (λ status. (status ≡ 3) ⊎ ((status ≡ 0) × HasTurned count (λ turns m. AreTurnsTold t (zone_lines t.origins m.zones) m turns (record { output = output; log = err; script = script }) texts) keeps after))
 after_zones (Err e) t count err between output script texts keeps after said h = tt
 after_zones (Ok status) t count err between output script texts keeps after said (inl failed) = inl failed
 after_zones (Ok status) t count err between output script texts keeps after said (inr (done, turned)) = inr (
   done,
-  turned_so (λ turns m. AreTold t [] m turns (record { output = output; log = between; script = script }) texts) (λ turns m. AreTold t (zone_lines t.origins m.zones) m turns (record { output = output; log = err; script = script }) texts) keeps turned
+  turned_so (λ turns m. AreTurnsTold t [] m turns (record { output = output; log = between; script = script }) texts) (λ turns m. AreTurnsTold t (zone_lines t.origins m.zones) m turns (record { output = output; log = err; script = script }) texts) keeps turned
       (λ turns m kept are. record {
         reports = are.reports;
         of_turns = are.of_turns;

@@ -11,7 +11,7 @@ use Rattle.dns_counters.specs.declared.counting.Counting.{Counting}
 use Rattle.dns_service.specs.Counting.{counting_after}
 use Rattle.dns_service.specs.declared.log.Counts.{Counts}
 use Rattle.dns_service.specs.declared.transfer_lines.Transfer.{Transfer}
-use Rattle.dns_service.specs.Log.{IsSaid, Logged, Said, logged, observation_said, report_said, says}
+use Rattle.dns_service.specs.Log.{IsSaid, Logged, Saying, logged, observation_said, report_said, says}
 use Rattle.dns_service.proofs.Logged.{says_written}
 use Rattle.dns_service.proofs.Said.{said_more, said_none}
 
@@ -34,10 +34,10 @@ pub silent_said : (quiet : Bool) (origins : List Labels) (log : Logged) (event :
     → observation_said origins log.known event effects ≡ record { text = []; known = log.known }
     → IsSaid (report_said quiet origins log.known (OfEvent event effects)) log log
 silent_said quiet origins log event effects is none =
-    event_reported quiet origins log log event effects is (subst (λ (s : Said). IsSaid s log log) (sym none) (nothing_said log))
+    event_reported quiet origins log log event effects is (subst (λ (s : Saying). IsSaid s log log) (sym none) (nothing_said log))
 
 -- What was appended to lines is said after all that was said.
-pub appended_said : (said : Said) (written written_after : Option (List ℕ)) (lines lines_after : List ℕ) (counts counts_after : Counts)
+pub appended_said : (said : Saying) (written written_after : Option (List ℕ)) (lines lines_after : List ℕ) (counts counts_after : Counts)
     (addresses addresses_after : List (Option IpAddr)) (transfers transfers_after : List (Option Transfer))
     → written_after ≡ written → lines_after ≡ lines ++ said.text → counts_after ≡ said.known.counts → addresses_after ≡ said.known.addresses → transfers_after ≡ said.known.transfers
     → IsSaid said (logged written lines counts addresses transfers) (logged written_after lines_after counts_after addresses_after transfers_after)
@@ -53,7 +53,7 @@ all_written (Some xs) None text said = said
 all_written (Some xs) (Some ys) text said = append-nil ys ∙ said
 
 -- What is said stays so when all lines are written out.
-pub written_said : (said : Said) (log : Logged) (written written_after : Option (List ℕ)) (lines lines_after : List ℕ) (counts counts_after : Counts)
+pub written_said : (said : Saying) (log : Logged) (written written_after : Option (List ℕ)) (lines lines_after : List ℕ) (counts counts_after : Counts)
     (addresses addresses_after : List (Option IpAddr)) (transfers transfers_after : List (Option Transfer))
     → IsSaid said log (logged written lines counts addresses transfers) → Appends written written_after lines → lines_after ≡ []
     → counts_after ≡ counts → addresses_after ≡ addresses → transfers_after ≡ transfers

@@ -3,7 +3,7 @@ use Rattle.std.proofs.Common.{◌≡◌, ℕ, Bool, List, [], ◌∷◌, ◌++�
 use Rattle.std.specs.List.{AllZip}
 use Rattle.dns_configuration.proofs.Called.{called_on, nothing_called}
 use Rattle.dns_network.specs.Datagrams.{Datagram}
-use Rattle.dns_service.specs.SystemCalls.{Addressed, DatagramCall, RecvFrom, SendTo, received_in, sent_in}
+use Rattle.dns_service.specs.SystemCalls.{Addressed, DatagramCall, RecvFrom, SendTo, received_in, datagrams_sent}
 use Rattle.dns_service.specs.Udp.{HavePassed, IsFrom, IsTo, by_ipv6, local_of}
 use Rattle.dns_service.specs.declared.system.DatagramCalls.{Ghosts}
 use Rattle.dns_service.specs.declared.udp.Udp.{Udp}
@@ -14,7 +14,7 @@ received_on (RecvFrom (Some one) ∷ a) b = ap (λ (l : List Addressed). one ∷
 received_on (RecvFrom None ∷ a) b = received_on a b
 received_on (SendTo one ∷ a) b = received_on a b
 
-sent_on : (a b : List DatagramCall) → sent_in (a ++ b) ≡ sent_in a ++ sent_in b
+sent_on : (a b : List DatagramCall) → datagrams_sent (a ++ b) ≡ datagrams_sent a ++ datagrams_sent b
 sent_on [] b = refl
 sent_on (RecvFrom got ∷ a) b = sent_on a b
 sent_on (SendTo one ∷ a) b = ap (λ (l : List Addressed). one ∷ l) (sent_on a b)
@@ -45,8 +45,8 @@ module _ {C : Type 0} (c : Ghosts C) where
         (zip_on (IsFrom (local_of a)) (received_in first.made) came (received_in then.made) came_then first.from
         (subst (λ (n : ℕ). AllZip (IsFrom n) (received_in then.made) came_then) first.local then.from));
     to = subst (λ (l : List Addressed). AllZip (IsTo (by_ipv6 a)) (went ++ went_then) l) (sym (sent_on first.made then.made))
-        (zip_on (IsTo (by_ipv6 a)) went (sent_in first.made) went_then (sent_in then.made) first.to
-        (subst (λ (n : Bool). AllZip (IsTo n) went_then (sent_in then.made)) first.family then.to));
+        (zip_on (IsTo (by_ipv6 a)) went (datagrams_sent first.made) went_then (datagrams_sent then.made) first.to
+        (subst (λ (n : Bool). AllZip (IsTo n) went_then (datagrams_sent then.made)) first.family then.to));
     local = then.local ∙ first.local;
     family = then.family ∙ first.family;
   }

@@ -40,10 +40,10 @@ use Rattle.dns_network.specs.Turn.{TurnMoment}
 use Rattle.dns_network.specs.Runs.{IsStepOf, Told, told_by}
 use Rattle.dns_service.specs.Log.{zone_lines}
 use Rattle.dns_service.specs.declared.server.ServeOptions.{ServeOptions}
-use Rattle.dns_service.specs.Opening.{AreIntact, IsNotServed, IsOpenedAs, IsServed, closings}
+use Rattle.dns_service.specs.Opening.{AreDevicesIntact, IsNotServed, IsOpenedAs, IsServed, closings}
 use Rattle.dns_service.specs.Serve.{AreServedFrom, HaveServed, IsRefusalTold, IsServedFor, IsServedSomehow, IsServingTried, ServingEnds, telling_for}
 use Rattle.dns_service.specs.ServedTurns.{HasRun, HasTurned, HaveRun, IsLedTo}
-use Rattle.dns_service.specs.Telling.{AreTold, Texts}
+use Rattle.dns_service.specs.Telling.{AreTurnsTold, Texts}
 
 pub at_ok : {A E : Type 0} (r : Result A E) (P : A → Type 0) (x : A) → r ≡ Ok x → IfOk r P → P x
 at_ok {A = A} {E = E} r P x e h = subst (λ (s : Result A E). IfOk s P) e h
@@ -133,7 +133,7 @@ module _ {D I : Type 0} (g : Ghosts D) {i : zone_index.Ghosts I} {s : store.Ghos
       )
 
   -- All turns were made.
-  pub served_for : (options : ServeOptions) (before after : Texts) → HasTurned options.turns (λ turns m. AreTold (telling_for c options) (zone_lines (origins_of c.zones.items) m.zones) m turns before after) (λ m. IsKept old m) (IsLedTo old new) → IsServedFor g (opening ++ closings (devices_of new) c.zones.items) c options before after
+  pub served_for : (options : ServeOptions) (before after : Texts) → HasTurned options.turns (λ turns m. AreTurnsTold (telling_for c options) (zone_lines (origins_of c.zones.items) m.zones) m turns before after) (λ m. IsKept old m) (IsLedTo old new) → IsServedFor g (opening ++ closings (devices_of new) c.zones.items) c options before after
   served_for options before after (turns, many, run) = record {
     opening = opening;
     back = devices_of new;
@@ -174,7 +174,7 @@ module _ {D I : Type 0} (g : Ghosts D) {i : zone_index.Ghosts I} {s : store.Ghos
 
 -- Devices that were opened as zones were intact.
 pub all_intact : {D I : Type 0} {g : Ghosts D} (n : ℕ) (apexes : List Labels) (settings : List ZoneSpec) (devices : List D) (zones : List Zone) (pending : List (ZoneVersions I (KeptStore D I g))) → n ≡ length settings → length apexes ≡ length settings → length devices ≡ length settings
-    → AreOpened n apexes settings devices zones pending → AreIntact g apexes settings devices
+    → AreOpened n apexes settings devices zones pending → AreDevicesIntact g apexes settings devices
 all_intact n [] [] [] zones pending count named many h = tt
 all_intact n (a ∷ apexes) [] devices zones pending count named many h = absurd (omega (arith, named))
 all_intact n [] [] (d ∷ devices) zones pending count named many h = absurd (omega (arith, many))

@@ -19,20 +19,20 @@ use Rattle.dns_service.specs.declared.sockets.Sockets.{Sockets}
 use Rattle.dns_service.specs.declared.system.DatagramCalls.{Ghosts}
 
 -- A reply to an address is a datagram to the peer there.
-abbrev pub datagrams_to : To → List ℕ → List Datagram
-datagrams_to (to.Address peer) reply = (reply, peer) ∷ []
-datagrams_to (to.Connection number) reply = []
-datagrams_to to.Nowhere reply = []
+abbrev pub datagrams_of_reply : To → List ℕ → List Datagram
+datagrams_of_reply (to.Address peer) reply = (reply, peer) ∷ []
+datagrams_of_reply (to.Connection number) reply = []
+datagrams_of_reply to.Nowhere reply = []
 
 -- The datagram whose event it is.
-abbrev pub datagrams_from : events.Event → List Datagram
-datagrams_from (events.Datagram peer octets) = (octets, peer) ∷ []
-datagrams_from (events.Connect peer) = []
-datagrams_from (events.Arrives number message) = []
-datagrams_from events.Flush = []
-datagrams_from (events.Checkpoint index) = []
-datagrams_from (events.Pump number) = []
-datagrams_from (events.Closed number) = []
+abbrev pub datagrams_of_event : events.Event → List Datagram
+datagrams_of_event (events.Datagram peer octets) = (octets, peer) ∷ []
+datagrams_of_event (events.Connect peer) = []
+datagrams_of_event (events.Arrives number message) = []
+datagrams_of_event events.Flush = []
+datagrams_of_event (events.Checkpoint index) = []
+datagrams_of_event (events.Pump number) = []
+datagrams_of_event (events.Closed number) = []
 
 -- The replies to addresses that go out in a moment.
 abbrev pub sent_in_moment : TurnMoment → List Datagram
@@ -40,7 +40,8 @@ sent_in_moment Asks = []
 sent_in_moment (Moves number answer) = []
 sent_in_moment (Connects peer effects) = []
 sent_in_moment (Refuses peer) = []
-sent_in_moment (Happens event effects goings) = flat_map (λ going. datagrams_to going.to going.octets) goings
+sent_in_moment (Happens event effects goings) =
+    flat_map (λ going. datagrams_of_reply going.to going.octets) goings
 sent_in_moment (Closes number cause) = []
 
 -- The datagram that the machine is told of in a moment.
@@ -49,7 +50,7 @@ told_in_moment Asks = []
 told_in_moment (Moves number answer) = []
 told_in_moment (Connects peer effects) = []
 told_in_moment (Refuses peer) = []
-told_in_moment (Happens event effects goings) = datagrams_from event
+told_in_moment (Happens event effects goings) = datagrams_of_event event
 told_in_moment (Closes number cause) = []
 
 -- In turns, in order: the replies to addresses that go out, and the datagrams that the machine is told of.

@@ -6,15 +6,15 @@ use Rattle.std.specs.declared.net.socket_addr.SocketAddr.{SocketAddr}
 use Rattle.dns_primary.specs.declared.event.Peer.{Peer}
 use Rattle.dns_configuration.specs.Calls.{HasCalled}
 use Rattle.dns_service.specs.Peers.{IsPeerOf}
-use Rattle.dns_service.specs.SystemCalls.{ListenerCall, accepted_in}
+use Rattle.dns_service.specs.SystemCalls.{ListenerCall, connections_accepted}
 use Rattle.dns_service.specs.declared.system.ListenerCalls.{Ghosts}
 use Rattle.dns_service.specs.declared.listeners.Listener.{Listener}
 use Rattle.dns_service.specs.declared.listeners.Listeners.{Listeners}
 
 module _ {T : Type 0} where
   -- A connection came to the server's address with this index, from that of its peer.
-  abbrev pub IsOf : ℕ → T × SocketAddr → T × Peer → Type 0
-  IsOf local came one = (one.0 ≡ came.0) × IsPeerOf came.1 local one.1
+  abbrev pub IsConnectionOf : ℕ → T × SocketAddr → T × Peer → Type 0
+  IsConnectionOf local came one = (one.0 ≡ came.0) × IsPeerOf came.1 local one.1
 
   -- The one that is handed over, if its peer connected to the address with this index.
   abbrev pub taken_at : ℕ → Option (T × Peer) → List (T × Peer)
@@ -26,11 +26,11 @@ listeners_of all = all.listeners.items
 
 module _ {L T : Type 0} where
   -- These connections came to a listener on the address with this index, and no other.
-  pub record HaveCome (l : Ghosts L T) (local : ℕ) (came : List (T × Peer)) (old new : Listener L)
+  pub record HaveConnected (l : Ghosts L T) (local : ℕ) (came : List (T × Peer)) (old new : Listener L)
       : Type 0 where
     pub made : List (ListenerCall T)
     pub called : HasCalled (l.calls old.socket) (l.calls new.socket) made
-    pub from : AllZip (IsOf local) (accepted_in made) came
+    pub from : AllZip (IsConnectionOf local) (connections_accepted made) came
 
   -- They were asked for a connection, and this one came, to the listener of the address that its peer
   -- connected to, or none did.
@@ -38,4 +38,4 @@ module _ {L T : Type 0} where
       : Type 0 where
     pub count : length new ≡ length old
     pub each : (local : ℕ) (before after : Listener L) → slice_get old local ≡ Some before
-        → slice_get new local ≡ Some after → HaveCome l local (taken_at local got) before after
+        → slice_get new local ≡ Some after → HaveConnected l local (taken_at local got) before after

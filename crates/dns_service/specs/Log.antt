@@ -21,6 +21,7 @@ use Rattle.dns_network.specs.declared.network.Note.TheVariants as note
 use Rattle.dns_network.specs.Notes.{Report, OfNote, OfEvent}
 use Rattle.dns_configuration.specs.Faults.{line}
 use Rattle.dns_service.specs.declared.log.Counts.{Counts}
+use Rattle.dns_service.specs.declared.log.Log.{Log}
 use Rattle.dns_service.specs.declared.transfer_lines.Transfer.{Transfer}
 use Rattle.dns_service.specs.TransferLines.{transfer_said, transfers_after}
 use Rattle.dns_service.specs.UpdateLines.{event_said}
@@ -125,11 +126,11 @@ nothing_known =
     record { counts = none_in 0; addresses = replicate 64 None; transfers = replicate 64 None }
 
 -- What is written of a report, and what is known after it.
-pub record Said : Type 0 where
+pub record Saying : Type 0 where
   pub text : List ℕ
   pub known : Known
 
-abbrev pub note_said : Bool → List Labels → Known → Note → Said
+abbrev pub note_said : Bool → List Labels → Known → Note → Saying
 note_said quiet origins k one = record {
   text = (said_of quiet origins k.counts one).0;
   known = record {
@@ -139,7 +140,7 @@ note_said quiet origins k one = record {
   };
 }
 
-abbrev pub observation_said : List Labels → Known → Event → Effects → Said
+abbrev pub observation_said : List Labels → Known → Event → Effects → Saying
 observation_said origins k event effects = record {
   text = (event_said origins k.addresses k.counts event effects).0
       ++ transfer_said origins k.addresses k.transfers event effects;
@@ -151,7 +152,7 @@ observation_said origins k event effects = record {
 }
 
 -- In a quiet log there is no line of an event.
-abbrev pub report_said : Bool → List Labels → Known → Report → Said
+abbrev pub report_said : Bool → List Labels → Known → Report → Saying
 report_said quiet origins k (OfNote one) = note_said quiet origins k one
 report_said true origins k (OfEvent event effects) = record { text = []; known = k }
 report_said false origins k (OfEvent event effects) = observation_said origins k event effects
@@ -181,12 +182,40 @@ logged written lines counts addresses transfers = record {
   known = record { counts = counts; addresses = addresses; transfers = transfers };
 }
 
+module _ {E : Type 0} where
+  -- What a log knows; and all that it has, where these octets are what its writer holds.
+  abbrev pub known_by : Log E → Known
+  known_by log = record {
+    counts = log.counts;
+    addresses = log.addresses.now.items;
+    transfers = log.transfers.now.items;
+  }
+
+  abbrev pub logged_by : (E → Option (List ℕ)) → Log E → Logged
+  logged_by contents log =
+      logged (contents log.err.now) log.lines.now.items log.counts log.addresses.now.items
+      log.transfers.now.items
+
+  -- What is written of a note comes after its lines, and these are its counts then.
+  abbrev pub HasAddedNote : Log E → Note → Log E → Type 0
+  HasAddedNote old one new =
+      IsAdded (said_of old.is_quiet old.origins.now old.counts one) old.lines.now.items new.lines.now.items
+      new.counts
+
+  -- What is written of an event comes after them, and of counts and transfers this is known then.
+  abbrev pub HasAddedEvent : Log E → Event → Effects → Log E → Type 0
+  HasAddedEvent old event effects new =
+      let said = observation_said old.origins.now (known_by old) event effects in
+      (new.lines.now.items ≡ old.lines.now.items ++ said.text)
+      × (new.counts ≡ said.known.counts)
+      × (new.transfers.now.items ≡ said.known.transfers)
+
 -- What a log says so far.
 abbrev pub says : Logged → Option (List ℕ)
 says log = append_known log.written log.lines
 
 -- This is said after all that was said, and this is known then.
-pub record IsSaid (said : Said) (log after : Logged) : Type 0 where
+pub record IsSaid (said : Saying) (log after : Logged) : Type 0 where
   pub text : Appends (says log) (says after) said.text
   pub known : after.known ≡ said.known
 
@@ -194,6 +223,12 @@ pub record IsSaid (said : Said) (log after : Logged) : Type 0 where
 abbrev pub IsWrittenAt : Bool → Report → Type 0
 IsWrittenAt quiet (OfNote one) = one ≡ note.Ends
 IsWrittenAt quiet (OfEvent event effects) = (quiet ≡ false) × (effects.headers.items ≡ [] → ⊥)
+
+-- What is to be said of an event is said by a log, which knows then what it makes known.
+abbrev pub HasSaidEvent : {E : Type 0} → (E → Option (List ℕ)) → Log E → Event → Effects → Log E → Type 0
+HasSaidEvent contents old event effects new =
+    IsSaid (observation_said old.origins.now (known_by old) event effects)
+    (logged_by contents old) (logged_by contents new)
 
 -- A report was taken by a log of these zones: if no write has failed after it, none had before it, and what
 -- is to be said of the report comes after all that was said.

@@ -21,5 +21,5 @@ peer_in peer = record {
 }
 
 -- A call failed, or the peer writes no more and all that it wrote was read.
-abbrev pub HasEnded : PeerInMemory → Type 0
-HasEnded peer = (peer.has_failed ≡ true) ⊎ ((peer.is_closed ≡ true) × (peer.waiting ≡ []))
+abbrev pub PeerHasEnded : PeerInMemory → Type 0
+PeerHasEnded peer = (peer.has_failed ≡ true) ⊎ ((peer.is_closed ≡ true) × (peer.waiting ≡ []))

@@ -14,12 +14,12 @@ abbrev pub packet_of : Packet → Addressed
 packet_of packet = (packet.octets.items, packet.address)
 
 -- A call, as the list of a socket in memory has it.
-abbrev pub call_of : PacketCall → DatagramCall
-call_of (Received got) = system.RecvFrom (option_map packet_of got)
-call_of (Sent packet) = system.SendTo (packet_of packet)
+abbrev pub packet_call : PacketCall → DatagramCall
+packet_call (Received got) = system.RecvFrom (option_map packet_of got)
+packet_call (Sent packet) = system.SendTo (packet_of packet)
 
-abbrev pub calls_of : MemoryDatagrams → Option (List DatagramCall)
-calls_of socket = option_map (λ calls. map call_of calls) (calls_in socket.calls)
+abbrev pub packet_calls : MemoryDatagrams → Option (List DatagramCall)
+packet_calls socket = option_map (λ calls. map packet_call calls) (calls_in socket.calls)
 
 abbrev pub accepts_of : {T : Type 0} → MemoryListener T → Option (List (ListenerCall T))
 accepts_of listener = option_map (λ calls. map (λ got. system.Accept got) calls) (calls_in listener.calls)

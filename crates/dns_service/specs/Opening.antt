@@ -1,6 +1,6 @@
 -- The zones of a configuration over their devices.
 use Rattle.std.specs.Prelude.{◌≡◌, ◌⊎◌, ℕ, zero, suc, List, [], ◌∷◌, ◌++◌, Some, Ok, length, slice_get}
-use Rattle.std.specs.Prelude.{MatchOption}
+use Rattle.std.specs.Prelude.{MatchOption, MatchResult, Result}
 use Rattle.std.specs.List.{AllZip}
 use Rattle.std.specs.String.{string_bytes}
 use Rattle.dns_names.specs.Name.{Labels}
@@ -45,6 +45,13 @@ IsNextGiven {D} calls own before after =
 abbrev pub IsNextNotGiven : {D : Type 0} → List (DeviceCall D) → ZoneSettings → DeviceFault → Type 0
 IsNextNotGiven calls own fault = ((fault ≡ OutOfMemory) × (calls ≡ [])) ⊎ IsUnopened calls own fault
 
+-- The device of one more zone was given, or none more was.
+abbrev pub IsNextTried : {D X : Type 0} → List (DeviceCall D) → ZoneSettings → List D → List D
+    → Result X DeviceFault → Type 0
+IsNextTried calls own before after result =
+    MatchResult result (λ _. IsNextGiven calls own before after)
+    (λ fault. (after ≡ before) × IsNextNotGiven calls own fault)
+
 -- These devices were opened for the zones.
 abbrev pub AreGiven : {D : Type 0} → List (DeviceCall D) → List ZoneSettings → List D → Type 0
 AreGiven calls zones devices = (length devices ≡ length zones) × (calls ≡ openings devices zones)
@@ -71,11 +78,11 @@ OfRecovered D = List D → List primary.ZoneSpec → Machine → Event → ℕ �
 
 -- The first sector of each device is a root of its zone and of the sizes of its store, and of the sectors
 -- that reading reaches each is zeros or its own.
-abbrev pub AreIntact : {D : Type 0} → Ghosts D → List Labels → List primary.ZoneSpec → List D → Type 0
-AreIntact g [] [] [] = Unit {0}
-AreIntact g (a ∷ apexes) (s ∷ settings) (d ∷ devices) =
-    IsIntactAs g (shape_of a s) d × AreIntact g apexes settings devices
-AreIntact g _ _ _ = ⊥
+abbrev pub AreDevicesIntact : {D : Type 0} → Ghosts D → List Labels → List primary.ZoneSpec → List D → Type 0
+AreDevicesIntact g [] [] [] = Unit {0}
+AreDevicesIntact g (a ∷ apexes) (s ∷ settings) (d ∷ devices) =
+    IsIntactAs g (shape_of a s) d × AreDevicesIntact g apexes settings devices
+AreDevicesIntact g _ _ _ = ⊥
 
 -- The stores of the devices that were opened were opened, which were intact: on those of a machine that
 -- stopped, this is said of one that recovered from that stop, of zones with these settings.
@@ -85,7 +92,7 @@ pub record IsServed {D : Type 0} (g : Ghosts D) (calls : List (DeviceCall D)) (z
   pub given : AreGiven calls zones devices
   pub known : List primary.ZoneSpec
   pub settings : AllZip IsSettingOf zones known
-  pub intact : AreIntact g (origins_of zones) known devices
+  pub intact : AreDevicesIntact g (origins_of zones) known devices
   pub recovered : (m : Machine) (event : Event) (tries : ℕ)
       → AreRecoverable g tries m event 0 m.zones (origins_of zones) known devices
       → (new : Machine) × IsStopped tries m event new × says devices known m event tries new

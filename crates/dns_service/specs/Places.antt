@@ -2,5 +2,5 @@
 use Rattle.std.specs.Prelude.{ℕ, Option}
 use Rattle.dns_service.specs.declared.readiness.Place.{Place}
 
-abbrev pub number_of : Place → Option ℕ
-number_of slot = slot.number
+abbrev pub place_number : Place → Option ℕ
+place_number slot = slot.number

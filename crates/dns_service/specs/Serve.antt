@@ -6,6 +6,7 @@ use Rattle.std.specs.String.{string_bytes}
 use Rattle.std.specs.Io.KnownBytes.{Appends}
 use Rattle.dns_sectors.specs.Device.{LeavesOnly}
 use Rattle.dns_sectors.specs.declared.device.Sectors.{Ghosts}
+use Rattle.dns_configuration.specs.Calls.{Calls}
 use Rattle.dns_configuration.specs.declared.configuration.ZoneSettings.{ZoneSettings}
 use Rattle.dns_configuration.specs.declared.configuration.Configuration.{Configuration}
 use Rattle.dns_configuration.specs.declared.files.File.{File}
@@ -34,9 +35,10 @@ use Rattle.dns_primary.specs.declared.primary.ZoneSpec.{ZoneSpec}
 use Rattle.dns_configuration.specs.Known.{origins_of}
 use Rattle.dns_service.specs.Log.{zone_lines}
 use Rattle.dns_service.specs.declared.server.ServeOptions.{ServeOptions}
+use Rattle.dns_service.specs.declared.server.Streams.{Streams}
 use Rattle.dns_service.specs.Opening.{IsNotServed, IsServed, OfRecovered, closings}
 use Rattle.dns_service.specs.ServedTurns.{HaveRun}
-use Rattle.dns_service.specs.Telling.{AreTold, Telling, Texts}
+use Rattle.dns_service.specs.Telling.{AreTurnsTold, Telling, Texts, texts_of}
 
 -- The path of the device of the zone there.
 abbrev pub IsPathAt : List ZoneSettings → ℕ → List ℕ → Type 0
@@ -112,8 +114,8 @@ pub record IsServedFor {D : Type 0} (g : Ghosts D) (calls : List (DeviceCall D))
   pub turns : List (List TurnMoment)
   pub many : length turns ≡ options.turns
   pub served : IsServed g opening c.zones.items (λ devices known m event tries start.
-      AreTold (telling_for c options) (zone_lines (origins_of c.zones.items) start.zones) start turns before
-      after
+      AreTurnsTold (telling_for c options) (zone_lines (origins_of c.zones.items) start.zones) start turns
+      before after
       × HaveServed g turns c.zones.items back devices known m event tries start)
 
 -- However it ended: some turns were made, and the devices were closed.
@@ -151,6 +153,15 @@ pub record ServingEnds {D : Type 0} (g : Ghosts D) (calls : List (DeviceCall D))
       × IsDeviceRefused g calls c.zones.items options.explain text))
   pub others : status ≤ 1 ⊎ (status ≡ 3)
   pub called : IsServingTried g calls config
+
+-- So a server ends, by the calls that it made and by what its streams held before and after it.
+abbrev pub ServerEnds : {D F O E W : Type 0} → Ghosts D → (F → Option (List (DeviceCall D)))
+    → (O → Option (List ℕ)) → (E → Option (List ℕ)) → (W → Option (List ℕ)) → F → F → Streams O E W
+    → Streams O E W → File → ServeOptions → ℕ → Type 0
+ServerEnds g called output log script devices devices' streams streams' config options status =
+    Calls (called devices) (called devices')
+    (λ calls. ServingEnds g calls config options (texts_of output log script streams)
+    (texts_of output log script streams') status)
 
 -- What is reported of a device that is refused: nothing where memory was, and nothing where there is no such
 -- zone.

@@ -17,6 +17,7 @@ use Rattle.dns_network.specs.Left.{LeadsThrough}
 use Rattle.dns_network.specs.Runs.{IsRunOf, told_by}
 use Rattle.dns_names.specs.Name.{Labels}
 use Rattle.dns_counters.specs.declared.counting.Counting.{Counting}
+use Rattle.dns_counters.specs.declared.telling.CountLines.{CountLines}
 use Rattle.dns_counters.specs.Counters.{no_counts}
 use Rattle.dns_service.specs.Counting.{AreCountsOf}
 
@@ -80,3 +81,18 @@ HasRun keeps says = (turns : List (List TurnMoment)) × ((m : Machine) → keeps
 abbrev pub IsLedTo : {I S : Type 0} {i : zone_index.Ghosts I} {s : store.Ghosts S} → Primary I S i s
     → Primary I S i s → OfRun
 IsLedTo old new m run = IsKept new (last_of m run) × LeadsThrough old new m run
+
+-- So many turns were made of a primary, which is this one now; and of each machine that it kept, and the
+-- turns, this is said.
+abbrev pub HasTurnedFrom : {I S : Type 0} {i : zone_index.Ghosts I} {s : store.Ghosts S} → ℕ
+    → Primary I S i s → Primary I S i s → (List (List TurnMoment) → Machine → Type 0) → Type 0
+HasTurnedFrom count before after said = HasTurned count said (λ m. IsKept before m) (IsLedTo before after)
+
+-- A primary is served over a network, and counts are told by these lines of them, where the observer had
+-- counted so before.
+abbrev pub IsCountedBy : {I D S N L O : Type 0} {i : zone_index.Ghosts I} {d : store.Ghosts D}
+    → stream.Ghosts S → Ghosts N S → notes.Ghosts L → (L → Counting) → (O → Option (List ℕ)) → CountLines O
+    → CountLines O → ℕ → Primary I D i d → N → L → Primary I D i d → N → L → Type 0
+IsCountedBy s n l counting contents lines lines' count old network observer new network' observer' =
+    IsCountedOn s n l lines.every lines.origins.now count old network observer (counting observer)
+    (contents lines.out.now) new network' observer' (contents lines'.out.now)

@@ -4,8 +4,8 @@ use Rattle.dns_primary.specs.declared.event.Peer.{Peer}
 use Rattle.dns_network.specs.declared.datagrams.Datagrams.{Datagrams}
 use Rattle.dns_service.specs.DatagramSockets.{sockets_of}
 use Rattle.dns_service.specs.Listeners.{HaveAccepted, listeners_of}
-use Rattle.dns_service.specs.Places.{number_of}
-use Rattle.dns_service.specs.Socket.{HasNotMoved, place_of, stream_of}
+use Rattle.dns_service.specs.Places.{place_number}
+use Rattle.dns_service.specs.Socket.{HasNotMoved, socket_place, socket_stream}
 use Rattle.dns_service.specs.declared.listeners.Listener.{Listener}
 use Rattle.dns_service.specs.declared.socket.Socket.{Socket}
 use Rattle.dns_service.specs.declared.sockets.Sockets.{Sockets}
@@ -15,11 +15,11 @@ use Rattle.dns_service.specs.declared.udp.Udp.{Udp}
 
 -- They were asked for a connection, and this one was handed over: its stream came to the listener of the
 -- address that its peer connected to; or none came.
-abbrev pub IsHandedOver : {L T : Type 0} → listener.Ghosts L T → Option (Socket T × Peer)
+abbrev pub IsSocketGiven : {L T : Type 0} → listener.Ghosts L T → Option (Socket T × Peer)
     → List (Listener L) → List (Listener L) → Type 0
-IsHandedOver {L} {T} l None old new = HaveAccepted l None old new
-IsHandedOver {L} {T} l (Some one) old new =
-    HaveAccepted l (Some (stream_of one.0, one.1)) old new
+IsSocketGiven {L} {T} l None old new = HaveAccepted l None old new
+IsSocketGiven {L} {T} l (Some one) old new =
+    HaveAccepted l (Some (socket_stream one.0, one.1)) old new
 
 module _ {C L : Type 0} where
   -- Those of datagrams, and those on which peers connect, by the indices of their addresses.
@@ -32,7 +32,7 @@ module _ {C L : Type 0} where
   abbrev pub HasAccepted : {T : Type 0} → listener.Ghosts L T → Sockets C L → Option (Socket T × Peer)
       → Sockets C L → Type 0
   HasAccepted l old got new =
-      (datagrams_of new ≡ datagrams_of old) × IsHandedOver l got (connects_of old) (connects_of new)
+      (datagrams_of new ≡ datagrams_of old) × IsSocketGiven l got (connects_of old) (connects_of new)
 
   -- Nothing else changed, and the stream of a connection was let go, or is watched by this number; no octet
   -- moved on it.
@@ -40,4 +40,4 @@ module _ {C L : Type 0} where
       → Sockets C L → Type 0
   IsWatched s old number socket None new = new ≡ old
   IsWatched s old number socket (Some watched) new =
-      (new ≡ old) × HasNotMoved s socket watched × (number_of (place_of watched) ≡ Some number)
+      (new ≡ old) × HasNotMoved s socket watched × (place_number (socket_place watched) ≡ Some number)

@@ -26,10 +26,10 @@ received_in (RecvFrom (Some one) ∷ rest) = one ∷ received_in rest
 received_in (RecvFrom None ∷ rest) = received_in rest
 received_in (SendTo one ∷ rest) = received_in rest
 
-abbrev pub sent_in : List DatagramCall → List Addressed
-sent_in [] = []
-sent_in (RecvFrom got ∷ rest) = sent_in rest
-sent_in (SendTo one ∷ rest) = one ∷ sent_in rest
+abbrev pub datagrams_sent : List DatagramCall → List Addressed
+datagrams_sent [] = []
+datagrams_sent (RecvFrom got ∷ rest) = datagrams_sent rest
+datagrams_sent (SendTo one ∷ rest) = one ∷ datagrams_sent rest
 
 -- A call on a listener: it was asked for a connection, and this one came, with the address of its peer, or
 -- none did.
@@ -37,12 +37,12 @@ pub data ListenerCall (T : Type 0) : Type 0 where
   Accept : Option (T × SocketAddr) → ListenerCall T
 
 -- The connections that came in these calls.
-abbrev pub accepted_in : {T : Type 0} → List (ListenerCall T) → List (T × SocketAddr)
-accepted_in [] = []
-accepted_in (Accept (Some one) ∷ rest) = one ∷ accepted_in rest
-accepted_in (Accept None ∷ rest) = accepted_in rest
+abbrev pub connections_accepted : {T : Type 0} → List (ListenerCall T) → List (T × SocketAddr)
+connections_accepted [] = []
+connections_accepted (Accept (Some one) ∷ rest) = one ∷ connections_accepted rest
+connections_accepted (Accept None ∷ rest) = connections_accepted rest
 
 -- The stream ended, or failed: no octet moved, or there was an error that doesn't pass.
-abbrev pub IsEnd : Result ℕ Error → Type 0
-IsEnd (Ok count) = count ≡ 0
-IsEnd (Err error) = (error_kind error ≢ kind.WouldBlock) × (error_kind error ≢ kind.Interrupted)
+abbrev pub EndsStream : Result ℕ Error → Type 0
+EndsStream (Ok count) = count ≡ 0
+EndsStream (Err error) = (error_kind error ≢ kind.WouldBlock) × (error_kind error ≢ kind.Interrupted)

@@ -1,18 +1,24 @@
 -- What a server tells of its turns: its log, and a script and counts if they are wanted.
-use Rattle.std.specs.Prelude.{◌≡◌, ◌⊎◌, ℕ, Bool, true, false, List, ◌∷◌, ◌++◌, Option}
+use Rattle.std.specs.Prelude.{◌≡◌, ◌⊎◌, ℕ, Bool, true, false, List, [], ◌∷◌, ◌++◌, Option}
 use Rattle.std.specs.Io.KnownBytes.{Appends}
 use Rattle.std.specs.declared.net.socket_addr.SocketAddr.{SocketAddr}
 use Rattle.dns_names.specs.Name.{Labels}
+use Rattle.dns_zone.specs.declared.index.ZoneIndex as zone_index
+use Rattle.dns_store.specs.declared.zone_store.ZoneStore as store
+use Rattle.dns_primary.specs.declared.primary.Primary.{Primary}
 use Rattle.dns_primary.specs.Machine.{Machine}
 use Rattle.dns_network.specs.declared.network.Note.TheVariants.{Unrecorded}
 use Rattle.dns_network.specs.declared.network.Observer.{Ghosts}
 use Rattle.dns_network.specs.Notes.{AreReported, Report, OfNote}
 use Rattle.dns_network.specs.Reports.{AreReportsOfTurns}
 use Rattle.dns_network.specs.Turn.{TurnMoment}
+use Rattle.dns_counters.specs.declared.counting.Counting.{Counting}
+use Rattle.dns_counters.specs.declared.telling.CountLines.{CountLines}
 use Rattle.dns_recording.specs.Recorder.{unstirred}
 use Rattle.dns_recording.specs.Script.{script_of, zone_comments}
 use Rattle.dns_service.specs.Counting.{AreCountsOf}
-use Rattle.dns_service.specs.Log.{IsLogOf}
+use Rattle.dns_service.specs.Log.{IsLogOf, zone_lines}
+use Rattle.dns_service.specs.ServedTurns.{BeginsCounting, HasTurnedFrom}
 use Rattle.dns_service.specs.declared.server.Service.{Service}
 use Rattle.dns_service.specs.declared.server.Streams.{Streams}
 
@@ -72,7 +78,7 @@ texts_of output log script streams =
 -- The log of these turns of a machine was written after all that it held: first these lines, then those of
 -- the addresses, and then what is said of the reports, in order. So was their script, which begins with the
 -- versions of the zones; and so were counts.
-pub record AreTold (t : Telling) (first : List ℕ) (m : Machine) (turns : List (List TurnMoment))
+pub record AreTurnsTold (t : Telling) (first : List ℕ) (m : Machine) (turns : List (List TurnMoment))
     (before after : Texts) : Type 0 where
   pub reports : List Report
   pub of_turns : AreReportsOfTurns turns reports
@@ -81,3 +87,38 @@ pub record AreTold (t : Telling) (first : List ℕ) (m : Machine) (turns : List 
       told
   pub log : IsLogOf first t.is_quiet t.origins t.addresses before.log after.log told
   pub counts : AreCountsOf t.count_every t.origins m turns before.output after.output
+
+module _ {R I D : Type 0} {i : zone_index.Ghosts I} {d : store.Ghosts D} (service : Service R)
+    (before after : Primary I D i d) where
+  -- All turns of a service were made of a primary: their script was written, if it is wanted, and their
+  -- counts were told, where the observer had counted none before.
+  abbrev pub TurnsAreRecorded : {L W O : Type 0} → Ghosts L → (L → Counting) → (W → Option (List ℕ))
+      → (O → Option (List ℕ)) → W → W → CountLines O → CountLines O → L → L → Type 0
+  TurnsAreRecorded l counting recorded output script script' counts counts' log log' =
+      BeginsCounting counts.every (counting log)
+      → HasTurnedFrom service.turns before after
+      (λ turns m. AreScripted l service.is_recorded (zone_comments service.origins.now m.zones)
+      (recorded script) (recorded script') turns log log'
+      × AreCountsOf counts.every counts.origins.now m turns (output counts.out.now) (output counts'.out.now))
+
+  -- They were made, and all was told that is to be told of them; the log begins with the lines that `first`
+  -- gives of a machine.
+  abbrev pub TurnsAreTold : (Machine → List ℕ) → Texts → Texts → Type 0
+  TurnsAreTold first texts texts' =
+      HasTurnedFrom service.turns before after
+      (λ turns m. AreTurnsTold (telling_of service) (first m) m turns texts texts')
+
+  module _ {O E W : Type 0} (output : O → Option (List ℕ)) (log : E → Option (List ℕ))
+      (script : W → Option (List ℕ)) where
+    -- It begins with the versions that are shown;
+    abbrev pub TurnsAreServed : Streams O E W → Streams O E W → Type 0
+    TurnsAreServed streams streams' =
+        TurnsAreTold (λ m. zone_lines service.origins.now m.zones)
+        (texts_of output log script streams) (texts_of output log script streams')
+
+    -- or they were told of before, and it begins with the addresses.
+    abbrev pub TurnsAreListened : O → E → W → O → E → W → Type 0
+    TurnsAreListened out err file out' err' file' =
+        TurnsAreTold (λ m. [])
+        (record { output = output out; log = log err; script = script file })
+        (record { output = output out'; log = log err'; script = script file' })

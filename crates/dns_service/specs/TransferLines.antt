@@ -17,21 +17,21 @@ use Rattle.dns_primary.specs.Step.{Event, Datagram, Connect, Arrives, Flush, Che
 use Rattle.dns_primary.specs.To.{octets_in}
 use Rattle.dns_configuration.specs.Faults.{line}
 use Rattle.dns_service.specs.declared.transfer_lines.Transfer.{Transfer}
-use Rattle.dns_service.specs.UpdateLines.{address_on, code_of}
+use Rattle.dns_service.specs.UpdateLines.{address_on, reply_code}
 
 -- The transfer that a request asks for, before its first message.
-abbrev pub transfer_of : List Labels → Request → Option Transfer
-transfer_of origins (request.Transfer m q) =
+abbrev pub transfer_wanted : List Labels → Request → Option Transfer
+transfer_wanted origins (request.Transfer m q) =
     option_map (λ zone. record { zone = zone; serial = 0; records = 0 })
     (position (λ origin. names_eq origin q.name) origins)
-transfer_of origins Ignored = None
-transfer_of origins (Refused rcode) = None
-transfer_of origins (NotServed m q rcode) = None
-transfer_of origins (Query m q) = None
-transfer_of origins (Update m q) = None
+transfer_wanted origins Ignored = None
+transfer_wanted origins (Refused rcode) = None
+transfer_wanted origins (NotServed m q rcode) = None
+transfer_wanted origins (Query m q) = None
+transfer_wanted origins (Update m q) = None
 
 abbrev pub transfer_asked : List Labels → List ℕ → Option Transfer
-transfer_asked origins octets = transfer_of origins (request_of octets Tcp)
+transfer_asked origins octets = transfer_wanted origins (request_of octets Tcp)
 
 -- How many records a message counts in its answer section, ANCOUNT (RFC 1035 4.1.1).
 abbrev pub answers_in : List ℕ → ℕ
@@ -68,12 +68,12 @@ after_message origins transfers number octets None (Device index) = transfers
 after_message origins transfers number octets (Some reply) noted = transfers
 
 -- The transfer that is open on a connection, if there is one.
-abbrev pub flat : Option (Option Transfer) → Option Transfer
-flat None = None
-flat (Some transfer) = transfer
+abbrev pub held_transfer : Option (Option Transfer) → Option Transfer
+held_transfer None = None
+held_transfer (Some transfer) = transfer
 
 abbrev pub open_on : List (Option Transfer) → ℕ → Option Transfer
-open_on transfers number = flat (slice_get transfers number)
+open_on transfers number = held_transfer (slice_get transfers number)
 
 -- After a pump: the transfer has sent a message more, or it has none left, and is over.
 abbrev pub after_pump : List (Option Transfer) → ℕ → Option Transfer → Option Reply → Noted
@@ -134,7 +134,7 @@ answered_text address (Update m q) reply = []
 
 -- A reply brings records: NOERROR, and not cut off (TC), as one without any record is.
 abbrev pub brings_records : List ℕ → Bool
-brings_records reply = code_of reply == 0 && not (answers_in reply == 0)
+brings_records reply = reply_code reply == 0 && not (answers_in reply == 0)
 
 -- What is written of a datagram: the line of the transfer that answers it.
 abbrev pub datagram_said : IpAddr → List ℕ → Option Reply → List ℕ

@@ -5,7 +5,7 @@ use Rattle.dns_configuration.specs.Calls.{HasCalled}
 use Rattle.dns_network.specs.Datagrams.{Datagram, arrived_of, leaving_of, socket_of}
 use Rattle.dns_network.specs.declared.datagrams.Datagrams.{Datagrams}
 use Rattle.dns_service.specs.Peers.{IsAddressOf, IsPeerOf}
-use Rattle.dns_service.specs.SystemCalls.{Addressed, DatagramCall, received_in, sent_in}
+use Rattle.dns_service.specs.SystemCalls.{Addressed, DatagramCall, received_in, datagrams_sent}
 use Rattle.dns_service.specs.declared.system.DatagramCalls.{Ghosts}
 use Rattle.dns_service.specs.declared.udp.Udp.{Udp}
 
@@ -30,7 +30,7 @@ module _ {C : Type 0} where
     pub made : List DatagramCall
     pub called : HasCalled (c.calls old.socket) (c.calls new.socket) made
     pub from : AllZip (IsFrom (local_of old)) (received_in made) came
-    pub to : AllZip (IsTo (by_ipv6 old)) went (sent_in made)
+    pub to : AllZip (IsTo (by_ipv6 old)) went (datagrams_sent made)
     pub local : local_of new ≡ local_of old
     pub family : by_ipv6 new ≡ by_ipv6 old
 

@@ -23,8 +23,8 @@ use Rattle.dns_service.specs.declared.log.Counts.{Counts}
 use Rattle.dns_service.specs.Verdict.{by_verdict, line_verdict}
 
 -- The response code of a reply (RFC 1035 4.1.1), and its word (RFC 2136 2.2).
-abbrev pub code_of : List ℕ → ℕ
-code_of reply = slice_index reply 3 % 16
+abbrev pub reply_code : List ℕ → ℕ
+reply_code reply = slice_index reply 3 % 16
 
 abbrev pub code_word : ℕ → List ℕ
 code_word code =
@@ -46,8 +46,8 @@ abbrev pub is_refusal : ℕ → Bool
 is_refusal code = not (code == 0) && not (code == 3)
 
 -- The line of a request that was refused: of which kind it is, who asked, for which zone, and the code.
-abbrev pub refused_line : List ℕ → IpAddr → Labels → ℕ → List ℕ
-refused_line kind address zone code =
+abbrev pub refusal_line : List ℕ → IpAddr → Labels → ℕ → List ℕ
+refusal_line kind address zone code =
     line (kind ++ codes " " ++ printed_address address ++ codes " " ++ printed_name zone ++ codes " "
     ++ code_word code)
 
@@ -56,12 +56,12 @@ refused_line kind address zone code =
 abbrev pub asker_text : IpAddr → Labels → List ℕ
 asker_text address origin = codes "update " ++ printed_address address ++ codes " " ++ printed_name origin
 
-abbrev pub version_text : ℕ → ℕ → List ℕ
-version_text version serial =
+abbrev pub no_error_text : ℕ → ℕ → List ℕ
+no_error_text version serial =
     line (codes " NOERROR version " ++ decimal version ++ codes " serial " ++ decimal serial)
 
 abbrev pub done_text : IpAddr → Labels → ℕ → ℕ → List ℕ
-done_text address origin version serial = asker_text address origin ++ version_text version serial
+done_text address origin version serial = asker_text address origin ++ no_error_text version serial
 
 -- The line of a zone that has no room: SERVFAIL, as an update was judged, says no more.
 abbrev pub full_text : Labels → Rcode → List ℕ
@@ -80,7 +80,7 @@ full_text origin NotZone = []
 -- The lines of an update of the zone with this name that was refused after a flush.
 abbrev pub denied_text : Labels → HeaderTo → List ℕ
 denied_text origin h =
-    refused_line (codes "update") h.waited.address origin (code_of h.octets)
+    refusal_line (codes "update") h.waited.address origin (reply_code h.octets)
     ++ full_text origin h.waited.rcode
 
 -- What is written of an update that was answered after a flush, and the counts after it. The line of one that
@@ -88,7 +88,7 @@ denied_text origin h =
 abbrev pub update_said : Option Labels → Counts → HeaderTo → List ℕ × Counts
 update_said None counts h = ([], counts)
 update_said (Some origin) counts h =
-    if code_of h.octets == 0
+    if reply_code h.octets == 0
     then (done_text h.waited.address origin h.waited.version h.waited.serial, counts)
     else by_verdict (line_verdict false counts) (denied_text origin h)
 
@@ -105,9 +105,9 @@ headers_said origins counts (h ∷ rest) =
 -- What is written of a request that was refused at once: of an update, or a request for a transfer.
 abbrev pub request_said : Counts → IpAddr → Request → ℕ → List ℕ × Counts
 request_said counts address (Update m q) code =
-    by_verdict (line_verdict false counts) (refused_line (codes "update") address q.name code)
+    by_verdict (line_verdict false counts) (refusal_line (codes "update") address q.name code)
 request_said counts address (Transfer m q) code =
-    by_verdict (line_verdict false counts) (refused_line (codes "transfer") address q.name code)
+    by_verdict (line_verdict false counts) (refusal_line (codes "transfer") address q.name code)
 request_said counts address Ignored code = ([], counts)
 request_said counts address (Refused rcode) code = ([], counts)
 request_said counts address (NotServed m q rcode) code = ([], counts)
@@ -144,8 +144,8 @@ refusal_said addresses counts (Closed number) code = ([], counts)
 abbrev pub reply_said : List (Option IpAddr) → Counts → Event → Option Reply → List ℕ × Counts
 reply_said addresses counts event None = ([], counts)
 reply_said addresses counts event (Some reply) =
-    if is_refusal (code_of (octets_in reply.octets))
-    then refusal_said addresses counts event (code_of (octets_in reply.octets))
+    if is_refusal (reply_code (octets_in reply.octets))
+    then refusal_said addresses counts event (reply_code (octets_in reply.octets))
     else ([], counts)
 
 -- What is written of an event and its effects: of the updates that are answered, in the order in which their

@@ -1,6 +1,6 @@
 //! The sockets on which peers connect, one on each address of the server.
 ghost use Rattle.std.specs.Prelude.{◌≡◌, ◌∷◌, [], MatchOption, None, Some, OnErr, OnOk, length, suc};
-ghost use Rattle.dns_service.specs.Listeners.{HaveAccepted, HaveCome, listeners_of};
+ghost use Rattle.dns_service.specs.Listeners.{HaveAccepted, HaveConnected, listeners_of};
 
 use crate::datagram_sockets::following;
 use crate::peers::peer_of;
@@ -24,8 +24,9 @@ impl<L> Listener<L> {
     fn accept<T>(&mut self, local: u8) -> Option<(T, Peer)>
     where
         L: ListenerCalls<T>,
-        ensures { MatchOption result (HaveCome L.ListenerCalls local [] self.old self.new)
-            (λ one. (one.1.local ≡ local) × HaveCome L.ListenerCalls local (one ∷ []) self.old self.new) }
+        ensures { MatchOption result (HaveConnected L.ListenerCalls local [] self.old self.new)
+            (λ one. (one.1.local ≡ local)
+            × HaveConnected L.ListenerCalls local (one ∷ []) self.old self.new) }
     {
         if !self.may_accept {
             return None;

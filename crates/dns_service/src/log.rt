@@ -5,9 +5,9 @@ ghost use Rattle.dns_names.specs.Name.{Labels};
 ghost use Rattle.dns_primary.specs.Steps.{event_shown};
 ghost use Rattle.dns_network.specs.Notes.{OfEvent, OfNote};
 ghost use Rattle.dns_service.specs.Counting.{counting_after};
-ghost use Rattle.dns_service.specs.Log.{IsAdded, IsLogged, IsSaid, Known, addresses_after, closed_line};
-ghost use Rattle.dns_service.specs.Log.{count_line, logged, observation_said, opened_line, said_of, summary};
-ghost use Rattle.dns_service.specs.Log.{transfers_noted};
+ghost use Rattle.dns_service.specs.Log.{HasAddedEvent, HasAddedNote, HasSaidEvent, IsAdded, IsLogged, Known};
+ghost use Rattle.dns_service.specs.Log.{addresses_after, closed_line, count_line, logged_by, opened_line};
+ghost use Rattle.dns_service.specs.Log.{observation_said, said_of, summary, transfers_noted};
 ghost use Rattle.dns_service.specs.declared.transfer_lines.Transfer.{Transfer as StatedTransfer};
 ghost use Rattle.std.specs.declared.net.ip_addr.IpAddr.{IpAddr as StatedAddress};
 ghost use Rattle.dns_service.specs.Verdict.{by_verdict, line_verdict, none_in};
@@ -236,8 +236,7 @@ impl<E: Write> Log<'_, E> {
         ensures transfers { self.new.transfers.now.items
             ≡ transfers_noted note self.old.transfers.now.items }
         ensures said { self.new.has_failed ≡ false → (self.old.has_failed ≡ false)
-            × IsAdded (said_of self.old.is_quiet self.old.origins.now self.old.counts note)
-            self.old.lines.now.items self.new.lines.now.items self.new.counts }
+            × HasAddedNote self.old note self.new }
     {
         if let Note::Opened(number, peer) = note {
             set(self.addresses, number, Some(peer.address));
@@ -263,15 +262,8 @@ impl<E: Write> Log<'_, E> {
         ensures quiet { self.new.is_quiet ≡ self.old.is_quiet }
         ensures addresses { self.new.addresses.now.items ≡ self.old.addresses.now.items }
         ensures failed { self.new.has_failed ≡ self.old.has_failed }
-        ensures said { OnOk result (let said = observation_said self.old.origins.now
-            (record {
-              counts = self.old.counts;
-              addresses = self.old.addresses.now.items;
-              transfers = self.old.transfers.now.items;
-            }) (event_shown event.entry) effects.now in
-            (self.new.lines.now.items ≡ self.old.lines.now.items ++ said.text)
-            × (self.new.counts ≡ said.known.counts)
-            × (self.new.transfers.now.items ≡ said.known.transfers)) }
+        ensures said { OnOk result
+            (HasAddedEvent self.old (event_shown event.entry) effects.now self.new) }
     {
         let (origins, counts) = (self.origins, self.counts);
         let alloc = *self.lines.allocator();
@@ -296,15 +288,7 @@ impl<E: Write> Log<'_, E> {
         ensures quiet { self.new.is_quiet ≡ self.old.is_quiet }
         ensures addresses { self.new.addresses.now.items ≡ self.old.addresses.now.items }
         ensures said { self.new.has_failed ≡ false → (self.old.has_failed ≡ false)
-            × (let said = observation_said self.old.origins.now
-            (record {
-              counts = self.old.counts;
-              addresses = self.old.addresses.now.items;
-              transfers = self.old.transfers.now.items;
-            }) (event_shown event.entry) effects.now in
-            (self.new.lines.now.items ≡ self.old.lines.now.items ++ said.text)
-            × (self.new.counts ≡ said.known.counts)
-            × (self.new.transfers.now.items ≡ said.known.transfers)) }
+            × HasAddedEvent self.old (event_shown event.entry) effects.now self.new }
     {
         if let Err(_) = self.add_report(event, effects) {
             self.has_failed = true;
@@ -337,16 +321,7 @@ impl<E: Write> Log<'_, E> {
         ensures origins { self.new.origins.now ≡ self.old.origins.now }
         ensures quiet { self.new.is_quiet ≡ self.old.is_quiet }
         ensures said { self.new.has_failed ≡ false → (self.old.has_failed ≡ false)
-            × IsSaid (observation_said self.old.origins.now
-            (record {
-              counts = self.old.counts;
-              addresses = self.old.addresses.now.items;
-              transfers = self.old.transfers.now.items;
-            }) (event_shown event.entry) effects.now)
-            (logged (E.contents self.old.err.now) self.old.lines.now.items self.old.counts
-            self.old.addresses.now.items self.old.transfers.now.items)
-            (logged (E.contents self.new.err.now) self.new.lines.now.items self.new.counts
-            self.new.addresses.now.items self.new.transfers.now.items) }
+            × HasSaidEvent E.contents self.old (event_shown event.entry) effects.now self.new }
         ensures written { (effects.now.headers.items ≡ [] → ⊥) → self.new.lines.now.items ≡ [] }
     {
         self.take_event(event, effects);
@@ -393,10 +368,7 @@ impl<E: Write> Observer for Log<'_, E> {
         × (new.origins.now ≡ old.origins.now)
         × (new.is_quiet ≡ old.is_quiet)
         × IsLogged old.is_quiet old.origins.now (OfNote note) old.has_failed new.has_failed
-        (logged (E.contents old.err.now) old.lines.now.items old.counts old.addresses.now.items
-        old.transfers.now.items)
-        (logged (E.contents new.err.now) new.lines.now.items new.counts new.addresses.now.items
-        new.transfers.now.items) };
+        (logged_by E.contents old) (logged_by E.contents new) };
 
     ghost observes = { λ old event effects new.
         (new.counting ≡ counting_after old.counting (OfEvent event effects))
@@ -404,10 +376,7 @@ impl<E: Write> Observer for Log<'_, E> {
         × (new.origins.now ≡ old.origins.now)
         × (new.is_quiet ≡ old.is_quiet)
         × IsLogged old.is_quiet old.origins.now (OfEvent event effects) old.has_failed new.has_failed
-        (logged (E.contents old.err.now) old.lines.now.items old.counts old.addresses.now.items
-        old.transfers.now.items)
-        (logged (E.contents new.err.now) new.lines.now.items new.counts new.addresses.now.items
-        new.transfers.now.items) };
+        (logged_by E.contents old) (logged_by E.contents new) };
 
     /// A turn in which nothing is said costs two comparisons.
     #[inline]

@@ -1,6 +1,6 @@
 //! The stream of a connection in memory, for tests.
 ghost use Rattle.std.specs.Prelude.{◌≡◌, [], IfOk, Some, true};
-ghost use Rattle.dns_service.specs.MemoryPeers.{HasEnded};
+ghost use Rattle.dns_service.specs.MemoryPeers.{PeerHasEnded};
 
 use crate::system::StreamCalls;
 use dns_devices::Twin;
@@ -89,7 +89,7 @@ impl StreamCalls for MemoryPeer {
 
     ghost sent = { λ peer. Some peer.sent };
 
-    ghost has_ended = { HasEnded };
+    ghost has_ended = { PeerHasEnded };
 
     fn read(&mut self, into: &mut [u8]) -> io::Result<usize> {
         let count = min(into.len(), self.waiting.len());

@@ -1,7 +1,7 @@
 //! Sockets in memory, for tests. They keep a list of their calls.
 ghost use Rattle.std.specs.Prelude.{◌≡◌, ◌≤◌, ◌∷◌, [], None, Some, IfOk, MatchResult, length};
 ghost use Rattle.dns_configuration.specs.Calls.{HasCalled};
-ghost use Rattle.dns_service.specs.MemorySockets.{accepts_of, call_of, calls_of, packet_of};
+ghost use Rattle.dns_service.specs.MemorySockets.{accepts_of, packet_call, packet_calls, packet_of};
 ghost use Rattle.dns_service.specs.SystemCalls.{Accept, RecvFrom, SendTo, datagram_in};
 
 use crate::system::{DatagramCalls, ListenerCalls};
@@ -47,7 +47,7 @@ fn received(
     answer: &io::Result<(usize, SocketAddr)>,
 ) -> Result<PacketCall, AllocError>
     requires { IfOk answer.now (λ came. came.0 ≤ length buffer.now) }
-    ensures { IfOk result (λ call. call_of call ≡ RecvFrom (datagram_in buffer.now answer.now)) }
+    ensures { IfOk result (λ call. packet_call call ≡ RecvFrom (datagram_in buffer.now answer.now)) }
 {
     match answer {
         Ok((count, address)) => {
@@ -70,7 +70,7 @@ pub(crate) struct MemoryDatagrams {
 impl MemoryDatagrams {
     /// One to which nothing came yet.
     pub(crate) fn new(heap: Heap) -> MemoryDatagrams
-        ensures { calls_of result ≡ Some [] }
+        ensures { packet_calls result ≡ Some [] }
     {
         MemoryDatagrams {
             heap,
@@ -81,7 +81,7 @@ impl MemoryDatagrams {
 
     /// A datagram comes from an address.
     pub(crate) fn give(&mut self, octets: &[u8], from: SocketAddr) -> Result<(), AllocError>
-        ensures { calls_of self.new ≡ calls_of self.old }
+        ensures { packet_calls self.new ≡ packet_calls self.old }
     {
         let packet = Packet::new(self.heap, octets, from)?;
         self.waiting.push(packet)?;
@@ -96,7 +96,7 @@ impl MemoryDatagrams {
     /// Takes the next datagram that waits into a buffer.
     fn take(&mut self, into: &mut [u8]) -> io::Result<(usize, SocketAddr)>
         ensures few { IfOk result (λ came. came.0 ≤ length into.new) }
-        ensures same { calls_of self.new ≡ calls_of self.old }
+        ensures same { packet_calls self.new ≡ packet_calls self.old }
     {
         if self.waiting.is_empty() {
             return Err(ErrorKind::WouldBlock.into());
@@ -110,8 +110,8 @@ impl MemoryDatagrams {
     /// Adds a call to the list, or loses it if memory for the call was refused.
     fn note(&mut self, call: Result<PacketCall, AllocError>)
         ensures { MatchResult call
-            (λ call. HasCalled (calls_of self.old) (calls_of self.new) (call_of call ∷ []))
-            (λ _. calls_of self.new ≡ None) }
+            (λ call. HasCalled (packet_calls self.old) (packet_calls self.new) (packet_call call ∷ []))
+            (λ _. packet_calls self.new ≡ None) }
     {
         match call {
             Ok(call) => self.calls.add(call),
@@ -121,7 +121,7 @@ impl MemoryDatagrams {
 }
 
 impl DatagramCalls for MemoryDatagrams {
-    ghost calls = { calls_of };
+    ghost calls = { packet_calls };
 
     fn recv_from(&mut self, into: &mut [u8]) -> io::Result<(usize, SocketAddr)> {
         let answer = self.take(into);

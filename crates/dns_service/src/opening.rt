@@ -3,8 +3,8 @@ ghost use Rattle.std.specs.Prelude.{◌≡◌, map, MatchResult};
 ghost use Rattle.dns_configuration.specs.Known.{origins_of};
 ghost use Rattle.dns_configuration.specs.Calls.{Calls, HasCalled};
 ghost use Rattle.dns_primary.specs.Open.{device_of_pending};
-ghost use Rattle.dns_service.specs.Opening.{AreGiven, IsFaultAt, IsNextGiven, IsNextNotGiven, IsNotGiven};
-ghost use Rattle.dns_service.specs.Opening.{IsNotServed, IsOpenedAs, IsServed, closings};
+ghost use Rattle.dns_service.specs.Opening.{AreGiven, IsFaultAt, IsNextTried, IsNotGiven, IsNotServed};
+ghost use Rattle.dns_service.specs.Opening.{IsOpenedAs, IsServed, closings};
 
 use dns_configuration::{ZoneSettings, settings_of};
 use dns_devices::{DeviceFault, Devices, refusal};
@@ -77,9 +77,8 @@ fn open_next<D, F: Devices<D>>(
     own: &ZoneSettings,
     given: &mut Vec<D, Heap>,
 ) -> Result<(), DeviceFault>
-    ensures { Calls (F.calls devices.old) (F.calls devices.new) (λ calls. MatchResult result
-        (λ _. IsNextGiven calls own.now given.old.items given.new.items)
-        (λ fault. (given.new.items ≡ given.old.items) × IsNextNotGiven calls own.now fault)) }
+    ensures { Calls (F.calls devices.old) (F.calls devices.new)
+        (λ calls. IsNextTried calls own.now given.old.items given.new.items result) }
 {
     if given.reserve(1).is_err() {
         return Err(DeviceFault::OutOfMemory);

@@ -1,6 +1,6 @@
 //! Which connections may have something to read, and which may take what is written, as events reported.
 ghost use Rattle.std.specs.Prelude.{◌≡◌, IsTrue, Some};
-ghost use Rattle.dns_service.specs.Places.{number_of};
+ghost use Rattle.dns_service.specs.Places.{place_number};
 
 use dns_memory::Heap;
 use std::cell::Cell;
@@ -101,7 +101,7 @@ impl Place {
     /// Gives the connection its number. Both a read and a write may find something to do there. It gets none
     /// if there is no bit for it.
     pub(crate) fn put(&mut self, number: usize) -> bool
-        ensures { IsTrue result → number_of self.new ≡ Some number }
+        ensures { IsTrue result → place_number self.new ≡ Some number }
     {
         let Some(bit) = bit_of(number) else {
             return false;

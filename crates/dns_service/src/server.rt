@@ -1,17 +1,14 @@
 //! A server over devices and sockets.
-ghost use Rattle.std.specs.Prelude.{◌≡◌, ◌⊎◌, true, [], IfOk, MatchResult, OnOk};
+ghost use Rattle.std.specs.Prelude.{◌≡◌, ◌⊎◌, true, IfOk, MatchResult, OnOk};
 ghost use Rattle.std.specs.Result.{result_unwrap_or};
 ghost use Rattle.std.specs.Io.KnownBytes.{Appends};
 ghost use Rattle.dns_primary.specs.Keeps.{IsKept};
 ghost use Rattle.dns_primary.specs.Machine.{Machine};
-ghost use Rattle.dns_recording.specs.Script.{zone_comments};
 ghost use Rattle.dns_configuration.specs.Calls.{Calls};
-ghost use Rattle.dns_service.specs.Counting.{AreCountsOf};
 ghost use Rattle.dns_service.specs.Log.{listening_lines, zone_line, zone_lines};
-ghost use Rattle.dns_service.specs.Serve.{ArePrimaryClosed, IsRefusalTold, ServingEnds};
-ghost use Rattle.dns_service.specs.ServedTurns.{BeginsCounting, HasPaused, HasRun, HasTurned, IsCountedOn};
-ghost use Rattle.dns_service.specs.ServedTurns.{IsLedTo, IsServedOn};
-ghost use Rattle.dns_service.specs.Telling.{AreScripted, AreTold, telling_of, texts_of};
+ghost use Rattle.dns_service.specs.Serve.{ArePrimaryClosed, IsRefusalTold, ServerEnds};
+ghost use Rattle.dns_service.specs.ServedTurns.{HasPaused, HasRun, IsCountedBy, IsLedTo, IsServedOn};
+ghost use Rattle.dns_service.specs.Telling.{TurnsAreListened, TurnsAreRecorded, TurnsAreServed};
 
 use crate::log::{Counts, Log};
 use crate::opening::{Refusal, close_stores, open_primary};
@@ -177,9 +174,8 @@ fn run<
         primary.new network.new notes.new)
         (λ _. primary.new ≡ primary.old) }
     ensures counted { IfOk result (λ is_told. is_told ≡ true
-        → IsCountedOn S.Stream N.Network L.Observer counts.old.every counts.old.origins.now service.now.turns
-        primary.old network.old notes.old (L.counting notes.old) (O.contents counts.old.out.now) primary.new
-        network.new notes.new (O.contents counts.new.out.now)) }
+        → IsCountedBy S.Stream N.Network L.Observer L.counting O.contents counts.old counts.new
+        service.now.turns primary.old network.old notes.old primary.new network.new notes.new) }
 {
     let (heap, rt) = (service.heap, service.rt);
     let mut edge: Edge<S> = Edge::new(heap)?;
@@ -247,14 +243,8 @@ fn run_recorded<
     ensures same_output { counts.new.out.ghost_name ≡ counts.old.out.ghost_name }
     ensures run { HasRun (λ m. IsKept primary.old m) (IsLedTo primary.old primary.new) }
     ensures told { IfOk result (λ is_told. is_told ≡ true
-        → BeginsCounting counts.old.every (L.counting log.old)
-        → HasTurned service.now.turns
-        (λ turns m. AreScripted L.Observer service.now.is_recorded
-        (zone_comments service.now.origins.now m.zones) (W.contents script.old) (W.contents script.new) turns
-        log.old log.new
-        × AreCountsOf counts.old.every counts.old.origins.now m turns (O.contents counts.old.out.now)
-        (O.contents counts.new.out.now))
-        (λ m. IsKept primary.old m) (IsLedTo primary.old primary.new)) }
+        → TurnsAreRecorded service.now primary.old primary.new L.Observer L.counting W.contents O.contents
+        script.old script.new counts.old counts.new log.old log.new) }
 {
     let mut lines = Vec::new(service.heap);
     let mut recorder = Recorder::new(script, log, &mut lines, service.is_recorded);
@@ -274,11 +264,8 @@ fn listen<'a, R: Net + Clock + Logger, I: ZoneIndex, S: ZoneStore, O: Write, E: 
     ensures run { HasRun (λ m. IsKept primary.old m) (IsLedTo primary.old primary.new) }
     ensures ended { IfOk result (λ status. (status ≡ FAILED)
         ⊎ ((status ≡ DONE)
-        × HasTurned service.now.turns
-        (λ turns m. AreTold (telling_of service.now) [] m turns
-        (record { output = O.contents out.old; log = E.contents err.old; script = W.contents script.old })
-        (record { output = O.contents out.new; log = E.contents err.new; script = W.contents script.new }))
-        (λ m. IsKept primary.old m) (IsLedTo primary.old primary.new))) }
+        × TurnsAreListened service.now primary.old primary.new O.contents E.contents W.contents
+        out.old err.old script.old out.new err.new script.new)) }
 {
     let (heap, rt, origins) = (service.heap, service.rt, service.origins);
     let mut sockets = match Sockets::bind(heap, rt, service.addresses) {
@@ -341,11 +328,8 @@ fn serve_primary<R: Net + Clock + Logger, I: ZoneIndex, S: ZoneStore, O: Write, 
     ensures run { HasRun (λ m. IsKept primary.old m) (IsLedTo primary.old primary.new) }
     ensures ended { IfOk result (λ status. (status ≡ FAILED)
         ⊎ ((status ≡ DONE)
-        × HasTurned service.now.turns
-        (λ turns m. AreTold (telling_of service.now) (zone_lines service.now.origins.now m.zones) m turns
-        (texts_of O.contents E.contents W.contents streams.old)
-        (texts_of O.contents E.contents W.contents streams.new))
-        (λ m. IsKept primary.old m) (IsLedTo primary.old primary.new))) }
+        × TurnsAreServed service.now primary.old primary.new O.contents E.contents W.contents
+        streams.old streams.new)) }
 {
     tell_zones(&mut streams.err, primary, service.origins)?;
     listen(
@@ -380,11 +364,7 @@ impl<R: Net + Clock + Logger, I: ZoneIndex, S: ZoneStore, O: Write, E: Write, W:
     ghost has_run = { λ primary after. HasRun (λ m. IsKept primary m) (IsLedTo primary after) };
 
     ghost is_served = { λ primary service streams after streams_after.
-        HasTurned service.turns
-        (λ turns m. AreTold (telling_of service) (zone_lines service.origins.now m.zones) m turns
-        (texts_of O.contents E.contents W.contents streams)
-        (texts_of O.contents E.contents W.contents streams_after))
-        (λ m. IsKept primary m) (IsLedTo primary after) };
+        TurnsAreServed service primary after O.contents E.contents W.contents streams streams_after };
 
     fn serve_as(&mut self, service: &Service<'_, R>, streams: &mut Streams<O, E, W>) -> u8 {
         serve_primary(service, self, streams).unwrap_or(FAILED)
@@ -470,10 +450,8 @@ fn serve_all<
     options: ServeOptions,
     streams: &mut Streams<O, E, W>,
 ) -> io::Result<u8>
-    ensures { Calls (F.calls devices.old) (F.calls devices.new)
-        (λ calls. ServingEnds D.Sectors calls config.now options
-        (texts_of O.contents E.contents W.contents streams.old)
-        (texts_of O.contents E.contents W.contents streams.new) (result_unwrap_or result FAILED)) }
+    ensures { ServerEnds D.Sectors F.calls O.contents E.contents W.contents devices.old devices.new
+        streams.old streams.new config.now options (result_unwrap_or result FAILED) }
 {
     let (alloc, heap, rt) = (host.alloc, host.heap, host.rt);
     let configuration = match read_configuration(alloc, heap, config) {
@@ -537,10 +515,8 @@ pub fn serve<
     options: ServeOptions,
     streams: &mut Streams<O, E, W>,
 ) -> u8
-    ensures { Calls (F.calls devices.old) (F.calls devices.new)
-        (λ calls. ServingEnds D.Sectors calls config.now options
-        (texts_of O.contents E.contents W.contents streams.old)
-        (texts_of O.contents E.contents W.contents streams.new) result) }
+    ensures { ServerEnds D.Sectors F.calls O.contents E.contents W.contents devices.old devices.new
+        streams.old streams.new config.now options result }
 {
     serve_all::<D, F, I, R, O, E, W>(host, devices, config, options, streams).unwrap_or(FAILED)
 }

@@ -2,9 +2,9 @@
 ghost use Rattle.std.specs.Prelude.{◌≡◌, ◌<◌, [], IsSome, IsTrue, Some, unwrap_or};
 ghost use Rattle.std.specs.Result.{result_unwrap_or};
 ghost use Rattle.dns_network.specs.Stream.{IfOctets, moved};
-ghost use Rattle.dns_service.specs.Places.{number_of};
-ghost use Rattle.dns_service.specs.Socket.{HasNotMoved, place_of, stream_of};
-ghost use Rattle.dns_service.specs.SystemCalls.{IsEnd};
+ghost use Rattle.dns_service.specs.Places.{place_number};
+ghost use Rattle.dns_service.specs.Socket.{HasNotMoved, socket_place, socket_stream};
+ghost use Rattle.dns_service.specs.SystemCalls.{EndsStream};
 
 use crate::readiness::Place;
 use crate::system::StreamCalls;
@@ -22,7 +22,7 @@ pub(crate) struct Socket<T> {
 impl<T: StreamCalls> Socket<T> {
     /// That of a stream that isn't watched yet.
     pub(crate) fn new(stream: T, slot: Place) -> Socket<T>
-        ensures { stream_of result ≡ stream }
+        ensures { socket_stream result ≡ stream }
     {
         Socket { stream, slot }
     }
@@ -30,7 +30,7 @@ impl<T: StreamCalls> Socket<T> {
     /// Lets the events of the stream be reported by a token, and gives it this number. That can be refused.
     pub(crate) fn watch(&mut self, registry: &Registry, token: Token, number: usize) -> bool
         ensures same { HasNotMoved T.StreamCalls self.old self.new }
-        ensures by { IsTrue result → number_of (place_of self.new) ≡ Some number }
+        ensures by { IsTrue result → place_number (socket_place self.new) ≡ Some number }
     {
         match self.stream.watch(registry, token) {
             Ok(()) => self.slot.put(number),
@@ -43,7 +43,7 @@ impl<T: StreamCalls> Socket<T> {
 fn what_moved(answer: &io::Result<usize>) -> Moved
     ensures count { moved result ≡ result_unwrap_or answer.now 0 }
     ensures some { IfOctets result (0 < moved result) }
-    ensures ended { result ≡ Moved.Ended → IsEnd answer.now }
+    ensures ended { result ≡ Moved.Ended → EndsStream answer.now }
 {
     match answer {
         Ok(0) => Moved::Ended,
@@ -56,14 +56,14 @@ fn what_moved(answer: &io::Result<usize>) -> Moved
 }
 
 impl<T: StreamCalls> Stream for Socket<T> {
-    ghost received = { λ socket. unwrap_or (T.received (stream_of socket)) [] };
+    ghost received = { λ socket. unwrap_or (T.received (socket_stream socket)) [] };
 
-    ghost sent = { λ socket. unwrap_or (T.sent (stream_of socket)) [] };
+    ghost sent = { λ socket. unwrap_or (T.sent (socket_stream socket)) [] };
 
     ghost is_faithful = { λ socket.
-        IsSome (T.received (stream_of socket)) × IsSome (T.sent (stream_of socket)) };
+        IsSome (T.received (socket_stream socket)) × IsSome (T.sent (socket_stream socket)) };
 
-    ghost has_ended = { λ socket. T.has_ended (stream_of socket) };
+    ghost has_ended = { λ socket. T.has_ended (socket_stream socket) };
 
     ghost answers = { λ _ _ _. Unit {0} };
 

@@ -4,8 +4,8 @@ ghost use Rattle.std.specs.Prelude.{◌≡◌, ◌≤◌, ◌∷◌, [], ℕ, Li
 ghost use Rattle.std.specs.Io.KnownBytes.{append_known};
 ghost use Rattle.std.specs.Result.{result_ok, result_unwrap_or};
 ghost use Rattle.dns_configuration.specs.Calls.{HasCalled};
-ghost use Rattle.dns_service.specs.SystemCalls.{Accept, DatagramCall, IsEnd, ListenerCall, RecvFrom, SendTo};
-ghost use Rattle.dns_service.specs.SystemCalls.{datagram_in};
+ghost use Rattle.dns_service.specs.SystemCalls.{Accept, DatagramCall, EndsStream, ListenerCall, RecvFrom};
+ghost use Rattle.dns_service.specs.SystemCalls.{SendTo, datagram_in};
 
 use mio::net::{TcpListener, TcpStream, UdpSocket};
 use mio::{Interest, Registry, Token};
@@ -76,7 +76,7 @@ pub(crate) trait StreamCalls {
         ensures came { received self.new
             ≡ append_known (received self.old) (take (result_unwrap_or result 0) into.new) }
         ensures still { sent self.new ≡ sent self.old }
-        ensures ended { IsEnd result → has_ended self.new };
+        ensures ended { EndsStream result → has_ended self.new };
 
     /// Hands octets over, and answers how many of them were taken, from the front.
     fn write(&mut self, octets: &[u8]) -> io::Result<usize>
@@ -84,7 +84,7 @@ pub(crate) trait StreamCalls {
         ensures went { sent self.new
             ≡ append_known (sent self.old) (take (result_unwrap_or result 0) octets.now) }
         ensures still { received self.new ≡ received self.old }
-        ensures ended { IsEnd result → has_ended self.new };
+        ensures ended { EndsStream result → has_ended self.new };
 
     /// Lets events of the stream be reported by a token, and each write leave at once.
     fn watch(&mut self, registry: &Registry, token: Token) -> io::Result<()>

@@ -7,11 +7,11 @@ ghost use Rattle.dns_primary.specs.Steps.{event_shown};
 ghost use Rattle.dns_primary.specs.To.{octets_in};
 ghost use Rattle.dns_service.specs.declared.log.Counts.{Counts as StatedCounts};
 ghost use Rattle.dns_service.specs.Log.{IsAdded};
-ghost use Rattle.dns_service.specs.UpdateLines.{address_on, asked_said, code_of, code_word, event_said};
+ghost use Rattle.dns_service.specs.UpdateLines.{address_on, asked_said, code_word, event_said, reply_code};
 ghost use Rattle.dns_service.specs.UpdateLines.{header_said};
-ghost use Rattle.dns_service.specs.UpdateLines.{headers_said, is_refusal, refusal_said, refused_line};
+ghost use Rattle.dns_service.specs.UpdateLines.{headers_said, is_refusal, refusal_said, refusal_line};
 ghost use Rattle.dns_service.specs.UpdateLines.{asker_text, denied_text, done_text, full_text, reply_said};
-ghost use Rattle.dns_service.specs.UpdateLines.{update_said, version_text};
+ghost use Rattle.dns_service.specs.UpdateLines.{update_said, no_error_text};
 ghost use Rattle.dns_service.specs.Verdict.{by_verdict, line_verdict};
 
 use crate::log::{Counts, judge};
@@ -47,7 +47,7 @@ fn code_word(code: u8) -> &'static str
 /// The response code of a reply, the low half of its fourth octet (RFC 1035 section 4.1.1).
 #[inline(always)]
 pub(crate) fn code_of(reply: &[u8]) -> u8
-    ensures { result ≡ code_of reply.now }
+    ensures { result ≡ reply_code reply.now }
 {
     match reply.get(3) {
         Some(octet) => *octet % 16,
@@ -65,7 +65,7 @@ fn add_asker(lines: &mut Vec<u8, Heap>, address: IpAddr, origin: &Name) -> io::R
 
 /// Appends which version came of an update, to the end of its line.
 fn add_version(lines: &mut Vec<u8, Heap>, version: u64, serial: u32) -> io::Result<()>
-    ensures { OnOk result (lines.new.items ≡ lines.old.items ++ version_text version serial) }
+    ensures { OnOk result (lines.new.items ≡ lines.old.items ++ no_error_text version serial) }
 {
     writeln!(lines, " NOERROR version {version} serial {serial}")
 }
@@ -94,7 +94,7 @@ fn add_refused_line(
     code: u8,
 ) -> io::Result<()>
     ensures { OnOk result (lines.new.items ≡ lines.old.items
-        ++ refused_line kind.now address zone.now code) }
+        ++ refusal_line kind.now address zone.now code) }
 {
     let address = print_address(address);
     let word = code_word(code);
@@ -205,7 +205,7 @@ fn add_refused(
 ) -> io::Result<Counts>
     ensures { IfOk result (λ after.
         IsAdded (by_verdict (line_verdict false counts)
-        (refused_line kind.now address question.now.name code)) lines.old.items lines.new.items after) }
+        (refusal_line kind.now address question.now.name code)) lines.old.items lines.new.items after) }
 {
     let Some((is_written, after)) = judge(false, counts) else {
         return Err(ErrorKind::Other.into());

@@ -35,7 +35,7 @@ use Rattle.dns_theorem.specs.Copies.{IsFollowed, FollowsInOrder, serial_held}
 use Rattle.dns_primary.proofs.Stopping.{fresh_keeps, resumed_keeps}
 use Rattle.dns_primary.specs.Runs.{HasHistory}
 use Rattle.dns_theorem.specs.Headline.{IsSoundZone, BeginsLoaded, BeginsResumed, IsSoundState, WasRead}
-use Rattle.dns_theorem.specs.Lives.{Act, Ran, Loaded, Reopened, machine_of, Life, end_of, BringsBy, CameAlong, LoadsBy, LoadedAlong, IsVersionOf, AreVersionsOf, HasGrown, StaysTrueOf}
+use Rattle.dns_theorem.specs.Lives.{Act, Ran, Loaded, Reopened, machine_after_act, Life, end_of_life, BringsBy, CameAlong, LoadsBy, LoadedAlong, IsVersionOf, AreVersionsOf, HasGrown, StaysTrueOf}
 use Rattle.dns_theorem.specs.Followed.{AreSoundVersions, HasSoundVersions, BeginsSoundly, IsSoundAct, TransfersAreFollowedThroughLife, AsksByUdp, IsAskedOf, DatagramsAreFollowed}
 use Rattle.dns_theorem.proofs.Chains.{last_zone}
 use Rattle.dns_theorem.proofs.Chained.{AreSent, Leads, leads_on, accepted_sound, sound_front, sound_joined}
@@ -55,7 +55,7 @@ brought_by m (Reopened index new) z u o b = absurd b
 came_sent : (m : Machine) (life : List Act) (z : ZoneState) (u : Message) → AllByRecursion IsSoundAct life → CameAlong m life z u → AllByRecursion IsSent u.authorities
 came_sent m [] z u o c = absurd c
 came_sent m (act ∷ rest) z u o (inl b) = brought_by m act z u o.0 b
-came_sent m (act ∷ rest) z u o (inr c) = came_sent (machine_of act) rest z u o.1 c
+came_sent m (act ∷ rest) z u o (inr c) = came_sent (machine_after_act act) rest z u o.1 c
 
 loads_valid : (m : Machine) (act : Act) (z : ZoneState) (rs : List Record) → IsSoundAct act → LoadsBy m act z rs → AllByRecursion IsRecord rs
 loads_valid m (Ran moment) z rs o b = absurd b
@@ -65,7 +65,7 @@ loads_valid m (Reopened index new) z rs o b = absurd b
 loaded_valid : (m : Machine) (life : List Act) (z : ZoneState) (rs : List Record) → AllByRecursion IsSoundAct life → LoadedAlong m life z rs → AllByRecursion IsRecord rs
 loaded_valid m [] z rs o c = absurd c
 loaded_valid m (act ∷ rest) z rs o (inl b) = loads_valid m act z rs o.0 b
-loaded_valid m (act ∷ rest) z rs o (inr c) = loaded_valid (machine_of act) rest z rs o.1 c
+loaded_valid m (act ∷ rest) z rs o (inr c) = loaded_valid (machine_after_act act) rest z rs o.1 c
 
 version_sound : (start : Machine) (life : List Act) (z : ZoneState) (n : ℕ) (before : List Record) (m : Made) → AllByRecursion IsSoundAct life
     → IsZone (record { apex = z.setting.shape.apex; records = before }) → AllByRecursion IsRecord before → IsVersionOf start life z n before m
@@ -111,9 +111,9 @@ all_sound start life (z ∷ olds) (w ∷ news) o k l g = (grown_sound start life
 
 -- what was shown at a moment is shown at the end
 last_along : (start : Machine) (earlier between : List Act) (zones : List ZoneState) → AllLast start.zones zones → AllByRecursion (StaysTrueOf zones) (earlier ++ between)
-    → AllLast (end_of start earlier).zones zones
+    → AllLast (end_of_life start earlier).zones zones
 last_along start [] between zones l m = l
-last_along start (act ∷ earlier) between zones l m = last_along (machine_of act) earlier between zones (m.0).shown m.1
+last_along start (act ∷ earlier) between zones l m = last_along (machine_after_act act) earlier between zones (m.0).shown m.1
 
 -- what is known at a moment of a life
 pub record IsKnownSince (earlier now : Machine) : Type 0 where
@@ -121,9 +121,9 @@ pub record IsKnownSince (earlier now : Machine) : Type 0 where
   pub sound : AllByRecursion HasSoundVersions now.zones
 
 pub known_since : (start : Machine) (earlier between : List Act) → BeginsSoundly start → Life start (earlier ++ between) → AllByRecursion IsSoundAct (earlier ++ between)
-    → IsKnownSince (end_of start earlier) (end_of start (earlier ++ between))
+    → IsKnownSince (end_of_life start earlier) (end_of_life start (earlier ++ between))
 known_since start earlier between begins life sound =
-    let now = end_of start (earlier ++ between) in
+    let now = end_of_life start (earlier ++ between) in
     let legacy = life_leaves start (earlier ++ between) begins.rests life in
     record {
       lasts = last_along start earlier between now.zones legacy.loaded legacy.acts;
@@ -133,7 +133,7 @@ known_since start earlier between begins life sound =
 pub transfers_are_followed : TransfersAreFollowedThroughLife
 transfers_are_followed start earlier between later event fails effects opened s number sending taken message rest fed begins life sound run asks opens given messages went =
     let since = known_since start earlier between begins life sound in
-    tells (end_of start earlier) (end_of start (earlier ++ between)) later event fails effects opened s number sending since.lasts since.sound run.0 run.1 asks opens taken message rest fed given messages went
+    tells (end_of_life start earlier) (end_of_life start (earlier ++ between)) later event fails effects opened s number sending since.lasts since.sound run.0 run.1 asks opens taken message rest fed given messages went
 
 -- ---- by UDP
 not_refused : (s : Receiving) (held : Zone) (m : Machine) (w : ZoneState) (address : IpAddr) (q : Question) (message : Message) (o : Option ZoneState) → s.held ≡ Some held → q ≡ question_asked s.apex s.held
@@ -221,7 +221,7 @@ module _ (earlier now : Machine) (peer : Peer) (octets : List ℕ) (fails : List
 
 pub datagrams_are_followed : DatagramsAreFollowed
 datagrams_are_followed start earlier between peer octets fails effects after s held w begins life sound step asks asked memory =
-    answers (end_of start earlier) (end_of start (earlier ++ between)) peer octets fails effects after s held w (known_since start earlier between begins life sound) asks asked step memory
+    answers (end_of_life start earlier) (end_of_life start (earlier ++ between)) peer octets fails effects after s held w (known_since start earlier between begins life sound) asks asked step memory
 
 -- ---- where a life begins
 each_read : (made : List Made) → AllByRecursion (λ u. WasRead u.update) made → AreSent made

@@ -1,15 +1,14 @@
 -- What an event makes of each zone, of whichever versions: they stay, or one more is accepted, which the event brought.
-use Rattle.std.proofs.Common.{◌≡◌, ◌+◌, ◌<◌, ◌≤◌, ◌^◌, ◌⊎◌, ℕ, zero, suc, Bool, true, not, inl, inr, List, [], ◌∷◌, ◌++◌, length, map, Option, Some, None, refl, sym, ap, subst, ◌∙◌, arith, append_assoc, append-nil}
-use Rattle.std.specs.Prelude.{◌-◌, ◌&&◌, ◌==◌, nat_le, nat_lt, slice_get, slice_set, if◌then◌else◌}
+use Rattle.std.proofs.Common.{◌≡◌, ◌+◌, ◌<◌, ◌≤◌, ◌^◌, ◌⊎◌, ℕ, Bool, true, inl, inr, List, [], ◌∷◌, ◌++◌, length, map, Option, Some, None, refl, sym, ap, subst, ◌∙◌, append_assoc, append-nil}
+use Rattle.std.specs.Prelude.{◌-◌, ◌&&◌, nat_le, nat_lt, slice_get, slice_set}
 use Rattle.std.specs.List.{AllByRecursion}
 use Rattle.dns_records.specs.Record.{Record}
-use Rattle.dns_records.specs.Types.{type_soa, class_in}
 use Rattle.dns_layout.specs.Sector.{snapshot_sectors}
 use Rattle.dns_wire.specs.Message.{header_of}
 use Rattle.dns_wire.specs.Text.{text}
 use Rattle.dns_wire.specs.Codes.{number_of_rcode}
 use Rattle.dns_wire.proofs.Binds.{true_le, true_lt}
-use Rattle.dns_request.specs.Codes.{rcode_formerr, rcode_notauth, rcode_refused, rcode_servfail}
+use Rattle.dns_request.specs.Codes.{rcode_servfail}
 use Rattle.dns_request.specs.declared.request.Transport.{Transport}
 use Rattle.dns_request.specs.declared.request.Transport.TheVariants.{Udp, Tcp}
 use Rattle.dns_zone.specs.Order.{both_true}
@@ -26,16 +25,16 @@ use Rattle.dns_primary.specs.declared.event.Peer.{Peer}
 use Rattle.dns_primary.specs.declared.event.To.{To}
 use Rattle.dns_primary.specs.declared.event.To.TheVariants as to
 use Rattle.dns_primary.specs.Machine.{Setting, ZoneState, Made, Waits, Machine, kept_of, updates_of, versions_of, shown_zones, peer_at, sending_at}
-use Rattle.dns_primary.specs.Flush.{Sent, Replied, flushed_zones, flushed, flush_sends, released, is_closed_in}
+use Rattle.dns_primary.specs.Flush.{Sent, Replied, flushed_zones, flushed, flush_sends}
 use Rattle.dns_primary.specs.Connections.{connected, closed, without_connection}
-use Rattle.dns_primary.specs.Update.{Asked, Admission, Rejects, Admits, zone_position, admission_in, admission_at, admission, newest_serial, waits, stages, with_staged, accepted_in, judged_in, admitted, is_full, made_place, answer, room_lacked}
+use Rattle.dns_primary.specs.Update.{Asked, Admission, Rejects, Admits, admission, newest_serial, waits, stages, with_staged, accepted_in, judged_in, admitted, is_full, made_place, answer, room_lacked}
 use Rattle.dns_primary.specs.Step.{Event, Datagram, Connect, Arrives, Flush, Checkpoint, Pump, Closed, IsCheckpointed, IsUpdateBegun, IsUpdated, Effects, AreFailures, GivesEffects, IsRequestHandled, IsArrived, Goes, Lacks, Step, is_asking, failure, failure_on, failures}
-use Rattle.dns_primary.specs.Runs.{Lasts, AllLast, IsDurable, IsTrueIn, IsAccepted, Carries, Brings}
+use Rattle.dns_primary.specs.Runs.{Lasts, AllLast, IsTrueIn, IsAccepted, Carries, Brings}
 use Rattle.dns_primary.proofs.Quiet.{IsQuiet, transferred_quiet, pumped_quiet, replies_all}
-use Rattle.dns_primary.proofs.Zonewise.{tested, pair_found, pair_found_before, pair_map, pair_same, pair_on, pair_set, lasts_same, lasts_on, Same, same_itself, IsFlushed, newest_is, number_is}
-use Rattle.dns_primary.proofs.Sound.{IsPlaced, Grows, grows_itself, waiting_over, all_more, all_with, all_true_over, all_flushed}
-use Rattle.dns_primary.proofs.Brought.{IsNamed, NamedAt, place_named}
-use Rattle.dns_primary.proofs.Preserved.{has, same_moved, same_updates, IsSameBut}
+use Rattle.dns_primary.proofs.Zonewise.{tested, pair_found_before, pair_map, pair_same, pair_on, pair_set, lasts_same, lasts_on, Same, same_itself, IsFlushed, newest_is, number_is}
+use Rattle.dns_primary.proofs.Sound.{IsPlaced, Grows, grows_itself, waiting_over, all_more, all_with, all_true_over, all_flushed, all_released, set_stands}
+use Rattle.dns_primary.proofs.Brought.{AllowedIn, IsAllowed, admission_allowed}
+use Rattle.dns_primary.proofs.Preserved.{same_lasts, same_moved, same_updates}
 
 -- the same updates, and what was shown stays
 record IsStill (z w : ZoneState) : Type 0 where
@@ -70,21 +69,6 @@ pair_then R Q T on (a ∷ old) (b ∷ mid) [] p q = absurd q
 pair_then R Q T on (a ∷ old) (b ∷ mid) (c ∷ new) p q = (on a b c p.0 q.0, pair_then R Q T on old mid new p.1 q.1)
 
 -- ---- a flush
-kept_by : (zones : List ZoneState) (w : Waits) (z v : ZoneState) (more : List Made) → slice_get zones w.zone ≡ Some v → IsFlushed z v → updates_of z ≡ w.updates ++ more
-    → (if is_closed_in (slice_get zones w.zone) then rcode_servfail else w.rcode) ≡ 0 → IsDurable zones w
-kept_by zones w z v more e f u r = elim (f.whole) [
-  | inl c ↦ (let shut : is_closed_in (slice_get zones w.zone) ≡ true = ap is_closed_in e ∙ c in
-      let is : rcode_servfail ≡ 0 = subst (λ (b : Bool). (if b then rcode_servfail else w.rcode) ≡ 0) shut r in
-      absurd (omega (arith, is)))
-  | inr s ↦ record { zone = v; stands = e; more = more; shown = s ∙ u }
-]
-
-all_released : (zones after : List ZoneState) (ws : List Waits) → Each2 IsFlushed zones after → AllByRecursion (IsPlaced zones) ws → AllByRecursion (IsTrueIn after) (map (released after) ws)
-all_released zones after [] each p = tt
-all_released zones after (w ∷ ws) each p =
-    let found = pair_found IsFlushed zones after w.zone (p.0).zone each (p.0).stands in
-    (λ r. kept_by after w (p.0).zone found.zone (p.0).more found.stands found.holds (p.0).updates r, all_released zones after ws each p.1)
-
 flush_held : (fails : List Bool) (m : Machine) → length fails ≡ length m.zones → Placed m → IsHeld IsStill m (flushed fails m) (flush_sends fails m)
 flush_held fails m long p =
     let each = all_flushed fails m.zones long in
@@ -104,9 +88,6 @@ place_held fails m f s =
     (λ e. still_stays m s)
 
 -- ---- a base that is moved
-same_lasts : (z w : ZoneState) → IsSameBut z w → Lasts z w
-same_lasts z w s = record { shape = ap (λ (x : Setting). x.shape) s.setting; loaded = s.loaded; more = []; shown = s.shown ∙ sym (append-nil z.shown) }
-
 same_on : (a b c : ZoneState) → Same a b → Same b c → Same a c
 same_on a b c p q = record { setting = q.setting ∙ p.setting; loaded = q.loaded ∙ p.loaded; updates = q.updates ∙ p.updates; openings = q.openings ∙ p.openings }
 
@@ -128,36 +109,7 @@ begun_held fails old (Some lacked) first mid s g =
     reaches IsStill old mid after first.sent (flush_sends flushing old) made.is (g.4).sent
     (record { zones = pair_on IsStill still_on old.zones here.zones after.zones one.zones two; placed = tt; good = all_true_over here.zones after.zones last (flush_sends flushing old) one.good })
 
--- ---- an update: what is admitted is named and allowed
-record IsAllowed (zones : List ZoneState) (a : Asked) (index : ℕ) (z : ZoneState) : Type 0 where
-  stands : slice_get zones index ≡ Some z
-  named : names_eq z.setting.shape.apex a.zone.name ≡ true
-  allowed : z.setting.may_update a.address ≡ true
-
-abbrev AllowedIn : List ZoneState → Asked → Admission → Type 0
-AllowedIn zones a (Rejects rcode) = Unit {0}
-AllowedIn zones a (Admits index z) = IsAllowed zones a index z
-
-in_allowed : (zones : List ZoneState) (a : Asked) (index : ℕ) (found : Option ZoneState) → slice_get zones index ≡ found → IsNamed a.zone.name found → AllowedIn zones a (admission_in a.address index found)
-in_allowed zones a index None e n = tt
-in_allowed zones a index (Some z) e n =
-    tested (AllowedIn zones a) (not (z.setting.may_update a.address)) (Rejects rcode_refused) (if z.closed then Rejects rcode_servfail else Admits index z)
-    (λ _. tt)
-    (λ may. tested (AllowedIn zones a) z.closed (Rejects rcode_servfail) (Admits index z) (λ _. tt) (λ _. record { stands = e; named = n; allowed = has (z.setting.may_update a.address) may }))
-
-at_allowed : (zones : List ZoneState) (a : Asked) (o : Option ℕ) → NamedAt a.zone.name zones o → AllowedIn zones a (admission_at zones a.address o)
-at_allowed zones a None n = tt
-at_allowed zones a (Some index) n = in_allowed zones a index (slice_get zones index) refl n
-
-admission_allowed : (zones : List ZoneState) (a : Asked) → AllowedIn zones a (admission zones a)
-admission_allowed zones a =
-    tested (AllowedIn zones a) (not (a.zone.qtype == type_soa)) (Rejects rcode_formerr)
-    (if not (a.zone.qclass == class_in) then Rejects rcode_notauth else admission_at zones a.address (zone_position a.zone.name zones))
-    (λ _. tt)
-    (λ _. tested (AllowedIn zones a) (not (a.zone.qclass == class_in)) (Rejects rcode_notauth) (admission_at zones a.address (zone_position a.zone.name zones))
-    (λ _. tt)
-    (λ _. at_allowed zones a (zone_position a.zone.name zones) (place_named a.zone.name zones)))
-
+-- ---- an update
 -- an update with room is accepted on the newest version
 accepted_on : (z : ZoneState) (made : Made) → verdict (newest_zone (kept_of z)) made.update.answers made.update.authorities ≡ Leaves made.records → has_room (kept_of z) made.records ≡ true
     → IsAccepted z.setting.shape (length (updates_of z)) (newest_after z.loaded (versions_of (updates_of z))) made
@@ -176,11 +128,6 @@ accepted_on z made j room =
       entry = subst (λ (rs : List Record). entry_between rs made.records ≤ k.shape.journal) (newest_is z) (true_le (entry_between (newest_of k) made.records) k.shape.journal third.1);
       numbered = subst (λ (n : ℕ). n < 2 ^ 64 - 1) (number_is z) (true_lt (length k.shown + length k.staged) (2 ^ 64 - 1) last.1);
     }
-
-set_stands : (zones : List ZoneState) (index : ℕ) (z w : ZoneState) → slice_get zones index ≡ Some z → slice_get (slice_set zones index w) index ≡ Some w
-set_stands [] index z w e = absurd cc
-set_stands (a ∷ zones) zero z w e = refl
-set_stands (a ∷ zones) (suc index) z w e = set_stands zones index z w e
 
 -- One version more, of which C holds.
 abbrev pub HasOneMore : (Shape → ℕ → List Record → Made → Type 0) → ZoneState → ZoneState → Type 0

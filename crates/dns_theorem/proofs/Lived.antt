@@ -16,7 +16,7 @@ use Rattle.dns_primary.specs.Runs.{Moment, Took, Stopped, Configured, machine_af
 use Rattle.dns_primary.proofs.Zonewise.{pair_map, pair_same, pair_set, lasts_on, lasts_same, all_last_same, all_last_on, versions_joined}
 use Rattle.dns_primary.proofs.Sound.{IsPlaced, all_true_over}
 use Rattle.dns_primary.proofs.Brought.{run_counts}
-use Rattle.dns_theorem.specs.Lives.{Act, Ran, Loaded, Reopened, machine_of, IsFiled, IsOpenedWith, HasLoaded, IsTended, Follows, Life, end_of, sent_by, BringsBy, CameAlong, LoadsBy, LoadedAlong, IsVersionOf, AreVersionsOf, HasGrown, StaysTrueOf, openings_of, IsAtRest, Legacy}
+use Rattle.dns_theorem.specs.Lives.{Act, Ran, Loaded, Reopened, machine_after_act, IsFiled, IsOpenedWith, HasLoaded, IsTended, MayFollow, Life, end_of_life, sent_in_act, BringsBy, CameAlong, LoadsBy, LoadedAlong, IsVersionOf, AreVersionsOf, HasGrown, StaysTrueOf, openings_of, IsMachineAtRest, Legacy}
 use Rattle.dns_theorem.proofs.Chained.{newest_joined}
 use Rattle.dns_theorem.proofs.Grown.{Placed, IsHeld, HasOneMore, HasFewer, IsMoved, moved_itself, pair_then, step_held}
 
@@ -180,7 +180,7 @@ tended_held C R index m new t moved = record {
   good = tt;
 }
 
-act_held : (C : Shape → ℕ → List Record → Made → Type 0) (m : Machine) (act : Act) → Fits C m act → Placed m → Follows m act → IsHeld (IsMoved C) m (machine_of act) (sent_by act)
+act_held : (C : Shape → ℕ → List Record → Made → Type 0) (m : Machine) (act : Act) → Fits C m act → Placed m → MayFollow m act → IsHeld (IsMoved C) m (machine_after_act act) (sent_in_act act)
 act_held C m (Ran moment) fits p h = moment_held C m moment fits p h
 act_held C m (Loaded index file new) fits p h = tended_held C (HasLoaded file) index m new h (loaded_moved C m index file new fits h)
 act_held C m (Reopened index new) fits p h = tended_held C (IsOpenedWith []) index m new h (reopened_moved C h.zone h.next h.made)
@@ -193,28 +193,28 @@ first_fits : (C : Shape → ℕ → List Record → Made → Type 0) (m : Machin
 first_fits C m act rest fits w n before made (inl (a, b)) = fits w n before made (inl (a, inl b))
 first_fits C m act rest fits w n before made (inr (f, l)) = fits w n before made (inr (f, inl l))
 
-rest_fit : (C : Shape → ℕ → List Record → Made → Type 0) (m : Machine) (act : Act) (rest : List Act) → AllFit C m (act ∷ rest) → AllFit C (machine_of act) rest
+rest_fit : (C : Shape → ℕ → List Record → Made → Type 0) (m : Machine) (act : Act) (rest : List Act) → AllFit C m (act ∷ rest) → AllFit C (machine_after_act act) rest
 rest_fit C m act rest fits w n before made (inl (a, b)) = fits w n before made (inl (a, inr b))
 rest_fit C m act rest fits w n before made (inr (f, l)) = fits w n before made (inr (f, inr l))
 
 record IsKeptBy (C : Shape → ℕ → List Record → Made → Type 0) (zeros : List ZoneState) (m : Machine) (life : List Act) : Type 0 where
-  loaded : AllLast m.zones (end_of m life).zones
-  grown : Each2 (IsOf C) zeros (end_of m life).zones
-  acts : AllByRecursion (StaysTrueOf (end_of m life).zones) life
+  loaded : AllLast m.zones (end_of_life m life).zones
+  grown : Each2 (IsOf C) zeros (end_of_life m life).zones
+  acts : AllByRecursion (StaysTrueOf (end_of_life m life).zones) life
 
 life_keeps : (C : Shape → ℕ → List Record → Made → Type 0) (zeros : List ZoneState) (m : Machine) (life : List Act) → AllFit C m life → Placed m → Each2 (IsOf C) zeros m.zones → Life m life
     → IsKeptBy C zeros m life
 life_keeps C zeros m [] fits p h l = record { loaded = all_last_same m.zones; grown = h; acts = tt }
 life_keeps C zeros m (act ∷ rest) fits p h l =
-    let next = machine_of act in
-    let ended = end_of next rest in
+    let next = machine_after_act act in
+    let ended = end_of_life next rest in
     let step = act_held C m act (first_fits C m act rest fits) p l.0 in
     let here = pair_then (IsOf C) (IsMoved C) (IsOf C) (moved_on C) zeros m.zones next.zones h step.zones in
     let later = life_keeps C zeros next rest (rest_fit C m act rest fits) step.placed here l.1 in
     record {
       loaded = all_last_on m.zones next.zones ended.zones (pair_map (IsMoved C) Lasts (λ a b x. x.lasts) m.zones next.zones step.zones) later.loaded;
       grown = later.grown;
-      acts = (record { shown = later.loaded; answered = all_true_over next.zones ended.zones later.loaded (sent_by act) step.good }, later.acts);
+      acts = (record { shown = later.loaded; answered = all_true_over next.zones ended.zones later.loaded (sent_in_act act) step.good }, later.acts);
     }
 
 -- ---- the same zone, by its name and sizes
@@ -244,7 +244,7 @@ brought_as m (Reopened index new) y w x e b = absurd b
 came_as : (m : Machine) (life : List Act) (y w : ZoneState) (x : Message) → w.setting.shape ≡ y.setting.shape → CameAlong m life y x → CameAlong m life w x
 came_as m [] y w x e c = absurd c
 came_as m (act ∷ rest) y w x e (inl b) = inl (brought_as m act y w x e b)
-came_as m (act ∷ rest) y w x e (inr c) = inr (came_as (machine_of act) rest y w x e c)
+came_as m (act ∷ rest) y w x e (inr c) = inr (came_as (machine_after_act act) rest y w x e c)
 
 loads_as : (m : Machine) (act : Act) (y w : ZoneState) (rs : List Record) → w.setting.shape ≡ y.setting.shape → LoadsBy m act y rs → LoadsBy m act w rs
 loads_as m (Ran moment) y w rs e b = absurd b
@@ -254,7 +254,7 @@ loads_as m (Reopened index new) y w rs e b = absurd b
 loaded_as : (m : Machine) (life : List Act) (y w : ZoneState) (rs : List Record) → w.setting.shape ≡ y.setting.shape → LoadedAlong m life y rs → LoadedAlong m life w rs
 loaded_as m [] y w rs e c = absurd c
 loaded_as m (act ∷ rest) y w rs e (inl b) = inl (loads_as m act y w rs e b)
-loaded_as m (act ∷ rest) y w rs e (inr c) = inr (loaded_as (machine_of act) rest y w rs e c)
+loaded_as m (act ∷ rest) y w rs e (inr c) = inr (loaded_as (machine_after_act act) rest y w rs e c)
 
 version_as : (m : Machine) (life : List Act) (y w : ZoneState) (n : ℕ) (before : List Record) (made : Made) → w.setting.shape ≡ y.setting.shape → IsVersionOf m life y n before made
     → IsVersionOf m life w n before made
@@ -286,25 +286,25 @@ tended_opens : (R : ZoneState → ZoneState → Type 0) (index : ℕ) (m new : M
 tended_opens R index m new t few =
     subst (λ (x : Machine). Each2 (IsOpenedAtMost 1) m.zones x.zones) (sym t.is) (pair_set (IsOpenedAtMost 1) (λ z. omega arith) m.zones index t.zone t.next t.there few)
 
-life_opens : (m : Machine) (life : List Act) → Life m life → Each2 (IsOpenedAtMost (openings_of life)) m.zones (end_of m life).zones
+life_opens : (m : Machine) (life : List Act) → Life m life → Each2 (IsOpenedAtMost (openings_of life)) m.zones (end_of_life m life).zones
 life_opens m [] l = pair_same (IsOpenedAtMost 0) (λ z. omega arith) m.zones
 life_opens m (Ran moment ∷ rest) l =
     pair_then (IsOpenedAtMost (openings_in (moment ∷ []))) (IsOpenedAtMost (openings_of rest)) (IsOpenedAtMost (openings_in (moment ∷ []) + openings_of rest)) (λ a b c p q. omega (arith, p, q))
-    m.zones (machine_after moment).zones (end_of (machine_after moment) rest).zones (run_counts m (moment ∷ []) (l.0, tt)) (life_opens (machine_after moment) rest l.1)
+    m.zones (machine_after moment).zones (end_of_life (machine_after moment) rest).zones (run_counts m (moment ∷ []) (l.0, tt)) (life_opens (machine_after moment) rest l.1)
 life_opens m (Loaded index file new ∷ rest) l =
     pair_then (IsOpenedAtMost 1) (IsOpenedAtMost (openings_of rest)) (IsOpenedAtMost (suc (openings_of rest))) (λ a b c p q. omega (arith, p, q))
-    m.zones new.zones (end_of new rest).zones (tended_opens (HasLoaded file) index m new l.0 (l.0).made.opened.at_most) (life_opens new rest l.1)
+    m.zones new.zones (end_of_life new rest).zones (tended_opens (HasLoaded file) index m new l.0 (l.0).made.opened.at_most) (life_opens new rest l.1)
 life_opens m (Reopened index new ∷ rest) l =
     pair_then (IsOpenedAtMost 1) (IsOpenedAtMost (openings_of rest)) (IsOpenedAtMost (suc (openings_of rest))) (λ a b c p q. omega (arith, p, q))
-    m.zones new.zones (end_of new rest).zones (tended_opens (IsOpenedWith []) index m new l.0 (l.0).made.at_most) (life_opens new rest l.1)
+    m.zones new.zones (end_of_life new rest).zones (tended_opens (IsOpenedWith []) index m new l.0 (l.0).made.at_most) (life_opens new rest l.1)
 
-pub life_leaves : (start : Machine) (life : List Act) → IsAtRest start → Life start life → Legacy start life
+pub life_leaves : (start : Machine) (life : List Act) → IsMachineAtRest start → Life start life → Legacy start life
 life_leaves start life rest l =
     let C = IsCaused start life in
     let kept = life_keeps C start.zones start life (λ w n before made h v e. version_as start life w v n before made e h) (none_placed start rest.waiting) (of_start C start.zones rest.staged) l in
     record {
       loaded = kept.loaded;
-      grown = pair_map (IsOf C) (HasGrown start life) (grown_of start life) start.zones (end_of start life).zones kept.grown;
+      grown = pair_map (IsOf C) (HasGrown start life) (grown_of start life) start.zones (end_of_life start life).zones kept.grown;
       openings = life_opens start life l;
       acts = kept.acts;
     }
@@ -325,6 +325,6 @@ reopened_rest [] (z ∷ states) h = absurd h
 reopened_rest (o ∷ held) [] h = absurd h
 reopened_rest (o ∷ held) (z ∷ states) h = (none_made z.staged (ap (λ (k : Kept). k.staged) (h.0).versions), reopened_rest held states h.1)
 
-pub start_rests : (m : Machine) → IsStart m → IsAtRest m
+pub start_rests : (m : Machine) → IsStart m → IsMachineAtRest m
 start_rests m (inl (zones, settings, f)) = record { waiting = f.waiting; staged = loaded_rest zones settings m.zones f.zones_are }
 start_rests m (inr (held, f)) = record { waiting = f.waiting; staged = reopened_rest held m.zones f.zones_are }

@@ -29,7 +29,7 @@ use Rattle.dns_primary.proofs.Continued.{run_goes, step_opened}
 use Rattle.dns_primary.proofs.Stopping.{fresh_keeps, resumed_keeps}
 use Rattle.dns_theorem.specs.Copies.{SendsAll}
 use Rattle.dns_theorem.specs.Headline.{AreOctetsIn, IsSoundState, BeginsLoaded, BeginsResumed, IsGivenOut, pumped_in}
-use Rattle.dns_theorem.specs.Lives.{end_of}
+use Rattle.dns_theorem.specs.Lives.{end_of_life}
 use Rattle.dns_theorem.specs.Messages.{ReadsAsSent, TransfersAreRead, TransfersAreReadThroughLife}
 use Rattle.dns_theorem.proofs.FollowedThroughLife.{known_since}
 use Rattle.dns_theorem.proofs.Chained.{transfer_valid}
@@ -147,4 +147,4 @@ resumed_are_read start earlier later number octets fails effects opened sending 
 pub lives_are_read : TransfersAreReadThroughLife
 lives_are_read start before later number octets fails effects opened sending begins life sound run came free opens given =
     let since = known_since start [] before begins life sound in
-    are_read (end_of start before) later number octets fails effects opened sending since.sound run.0 run.1 came free opens given
+    are_read (end_of_life start before) later number octets fails effects opened sending since.sound run.0 run.1 came free opens given

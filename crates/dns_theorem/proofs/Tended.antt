@@ -8,7 +8,7 @@ use Rattle.dns_store.specs.Versions.{Kept, Opened, Versions, IsLeftOf, made_dura
 use Rattle.dns_store.specs.Migrating.{IsMigrated}
 use Rattle.dns_primary.specs.Machine.{Made, ZoneState, kept_of, versions_of}
 use Rattle.dns_primary.proofs.Zonewise.{versions_joined}
-use Rattle.dns_theorem.specs.Lives.{HasLoaded, IsFiled, IsOpenedAs, IsOpenedWith}
+use Rattle.dns_theorem.specs.Lives.{HasLoaded, IsFiled, IsReopenedAs, IsOpenedWith}
 
 -- the zone that is opened then
 abbrev opened_zone : ZoneState → List Made → Opened → ZoneState
@@ -26,7 +26,7 @@ opened_zone z more o = record {
 record IsOpenedSo (z : ZoneState) (more : List Made) (o : Opened) : Type 0 where
   zone : ZoneState
   becomes : IsOpenedWith more z zone
-  opened : IsOpenedAs zone o
+  opened : IsReopenedAs zone o
 
 opened_so : (z : ZoneState) (more : List Made) (o : Opened) → z.staged ≡ [] → o.loaded ≡ z.loaded → o.versions ≡ versions_of z.shown ++ versions_of more → o.base ≤ length z.shown → o.openings ≡ z.openings
     → IsOpenedSo z more o
@@ -67,7 +67,7 @@ one_base k o most none within (inl e) = omega (arith, e, within)
 one_base k o most none within (inr e) = (let clash : ◌≡◌ {A = Option ℕ} None (Some o.base) = sym none ∙ e in absurd cc)
 
 abbrev BecomesEither : List Record → ZoneState → Opened → Type 0
-BecomesEither file z o = (w : ZoneState) × (HasLoaded file z w ⊎ IsOpenedWith [] z w) × IsOpenedAs w o
+BecomesEither file z o = (w : ZoneState) × (HasLoaded file z w ⊎ IsOpenedWith [] z w) × IsReopenedAs w o
 
 module _ (z : ZoneState) (file : List Record) (base : ℕ) (o : Opened) (rests : z.staged ≡ []) (none : z.second ≡ None) (within : base ≤ length z.shown)
     (filed : IsFiled z.setting.shape (length z.shown) (shown_of (kept_of z)) file) (left : IsLeftOf (staged_with file (moved_to base (kept_of z))) o) where
@@ -98,7 +98,7 @@ no_more (x ∷ kept) lost e = absurd cc
 -- the version is durable
 pub durable_becomes : (z : ZoneState) (file : List Record) (base : ℕ) (o : Opened) → z.staged ≡ [] → z.second ≡ None → base ≤ length z.shown
     → IsFiled z.setting.shape (length z.shown) (shown_of (kept_of z)) file → IsLeftOf (made_durable (staged_with file (moved_to base (kept_of z)))) o
-    → (w : ZoneState) × HasLoaded file z w × IsOpenedAs w o
+    → (w : ZoneState) × HasLoaded file z w × IsReopenedAs w o
 durable_becomes z file base o rests none within filed left =
     let kept : left.kept ≡ [] = no_more left.kept left.lost left.front in
     let made : Made = record { update = empty_message; records = file } in
@@ -112,7 +112,7 @@ durable_becomes z file base o rests none within filed left =
     (so.zone, record { filed = filed; made = made; records = refl; opened = so.becomes }, so.opened)
 
 pub reopened_becomes : (z : ZoneState) (base : ℕ) (o : Opened) → z.staged ≡ [] → z.second ≡ None → base ≤ length z.shown → IsLeftOf (moved_to base (kept_of z)) o
-    → (w : ZoneState) × IsOpenedWith [] z w × IsOpenedAs w o
+    → (w : ZoneState) × IsOpenedWith [] z w × IsReopenedAs w o
 reopened_becomes z base o rests none within left =
     let whole : [] ≡ left.kept ++ left.lost = sym (ap versions_of rests) ∙ left.front in
     let kept = no_more left.kept left.lost whole in
@@ -124,7 +124,7 @@ none_made : (made : List Made) → versions_of made ≡ [] → made ≡ []
 none_made [] e = refl
 none_made (m ∷ made) e = absurd cc
 
-pub migrated_becomes : (z : ZoneState) (before after : Opened) → IsOpenedAs z before → IsMigrated z.setting.shape before after → (w : ZoneState) × IsOpenedWith [] z w × IsOpenedAs w after
+pub migrated_becomes : (z : ZoneState) (before after : Opened) → IsReopenedAs z before → IsMigrated z.setting.shape before after → (w : ZoneState) × IsOpenedWith [] z w × IsReopenedAs w after
 migrated_becomes z before after is m =
     let versions : versions_of z.shown ≡ before.versions = ap (λ (k : Kept). k.shown) is in
     let rests : z.staged ≡ [] = none_made z.staged (ap (λ (k : Kept). k.staged) is) in

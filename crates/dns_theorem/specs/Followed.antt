@@ -25,7 +25,7 @@ use Rattle.dns_theorem.specs.Copies as copies
 use Rattle.dns_theorem.specs.Copies.{FollowsInOrder}
 use Rattle.dns_theorem.specs.Headline.{AreOctetsIn, Asks, AsksBy, IsGivenOut, IsHeldOf, IsSoundZone, OpensFor}
 use Rattle.dns_theorem.specs.Headline.{pumped_in}
-use Rattle.dns_theorem.specs.Lives.{Act, Ran, Loaded, Reopened, IsAtRest, Life, end_of}
+use Rattle.dns_theorem.specs.Lives.{Act, Ran, Loaded, Reopened, IsMachineAtRest, Life, end_of_life}
 
 -- Each version is a valid zone of that name, with a greater serial than the one before it (RFC 1982 3.2).
 abbrev pub AreSoundVersions : Labels → List Record → Versions → Type 0
@@ -42,7 +42,7 @@ pub record HasSoundVersions (z : ZoneState) : Type 0 where
 
 -- A machine at rest, of such zones: as they were just loaded, or as stores were that were there before.
 pub record BeginsSoundly (m : Machine) : Type 0 where
-  pub rests : IsAtRest m
+  pub rests : IsMachineAtRest m
   pub sound : AllByRecursion HasSoundVersions m.zones
 
 -- What comes in an act are octets, and what is loaded are records that a zone can have.
@@ -63,14 +63,14 @@ TransfersAreFollowedThroughLife =
     → BeginsSoundly start
     → Life start (earlier ++ between)
     → AllByRecursion IsSoundAct (earlier ++ between)
-    → Run (end_of start (earlier ++ between)) (Took event fails effects opened ∷ later)
-    → Asks s (end_of start earlier) (end_of start (earlier ++ between))
-    → OpensFor s number (end_of start (earlier ++ between)) event opened sending
+    → Run (end_of_life start (earlier ++ between)) (Took event fails effects opened ∷ later)
+    → Asks s (end_of_life start earlier) (end_of_life start (earlier ++ between))
+    → OpensFor s number (end_of_life start (earlier ++ between)) event opened sending
     → IsGivenOut number (Some sending) later
     → pumped_in number later ≡ before ++ message ∷ rest
     → copies.AllTellMore s before now
     → (w : ZoneState)
-    × (zone_named s.apex (end_of start (earlier ++ between)).zones ≡ Some w)
+    × (zone_named s.apex (end_of_life start (earlier ++ between)).zones ≡ Some w)
     × FollowsInOrder now message rest (shown_of (kept_of w))
 
 -- One who asks the machine by UDP for the changes of a version of a zone that it showed earlier.
@@ -104,9 +104,9 @@ DatagramsAreFollowed =
     → BeginsSoundly start
     → Life start (earlier ++ between)
     → AllByRecursion IsSoundAct (earlier ++ between)
-    → Step fails (end_of start (earlier ++ between)) (Datagram peer octets) effects after
-    → AsksByUdp s held (end_of start earlier) (end_of start (earlier ++ between))
-    → IsAskedOf s (end_of start (earlier ++ between)) peer octets w
+    → Step fails (end_of_life start (earlier ++ between)) (Datagram peer octets) effects after
+    → AsksByUdp s held (end_of_life start earlier) (end_of_life start (earlier ++ between))
+    → IsAskedOf s (end_of_life start (earlier ++ between)) peer octets w
     → effects.noted ≢ OutOfMemory
     → (message : List ℕ)
     × (effects.sent ≡ Replied (Address peer) message ∷ [])

@@ -11,7 +11,7 @@ use Rattle.dns_wire.specs.Message.{Message}
 use Rattle.dns_store.specs.Plain.{octets_of}
 use Rattle.dns_store.specs.Room.{entry_between}
 use Rattle.dns_store.specs.Opens.{fresh}
-use Rattle.dns_store.specs.Versions.{Opened, Shape, opened_again, shown_of}
+use Rattle.dns_store.specs.Versions.{Kept, Opened, Shape, moved_to, opened_again, shown_of, staged_with}
 use Rattle.dns_versions.specs.Each.{Each2}
 use Rattle.dns_primary.specs.Machine.{Made, ZoneState, Machine, kept_of, updates_of}
 use Rattle.dns_primary.specs.Flush.{Sent}
@@ -26,10 +26,10 @@ pub data Act : Type 0 where
   Loaded : ℕ → List Record → Machine → Act
   Reopened : ℕ → Machine → Act
 
-abbrev pub machine_of : Act → Machine
-machine_of (Ran moment) = machine_after moment
-machine_of (Loaded index file new) = new
-machine_of (Reopened index new) = new
+abbrev pub machine_after_act : Act → Machine
+machine_after_act (Ran moment) = machine_after moment
+machine_after_act (Loaded index file new) = new
+machine_after_act (Reopened index new) = new
 
 -- The records of a file may be the version after this one: they are a valid zone of the store's name, whose
 -- serial is greater (RFC 1982 3.2), and there is room for them, as for what an update leaves.
@@ -40,6 +40,14 @@ pub record IsFiled (s : Shape) (number : ℕ) (before file : List Record) : Type
   pub snapshot : snapshot_sectors (octets_of file) ≤ s.snapshot
   pub entry : entry_between before file ≤ s.journal
   pub numbered : number < 2 ^ 64 - 1
+
+-- They may be the zone's next version.
+abbrev pub MayLoad : ZoneState → List Record → Type 0
+MayLoad z file = IsFiled z.setting.shape (length z.shown) (shown_of (kept_of z)) file
+
+-- what its store keeps when they are staged after a base was chosen
+abbrev pub loading : ZoneState → List Record → ℕ → Kept
+loading z file base = staged_with file (moved_to base (kept_of z))
 
 -- A zone of which nothing is staged, as its store is opened again, with these after what was shown. It begins
 -- at whichever base. The store was opened once more, or a stop came before that was written.
@@ -56,16 +64,20 @@ pub record IsOpenedWith (more : List Made) (old new : ZoneState) : Type 0 where
   pub at_most : new.openings ≤ old.openings + 1
 
 -- The zone is as it is opened of a store that holds this.
-abbrev pub IsOpenedAs : ZoneState → Opened → Type 0
-IsOpenedAs z o = kept_of z ≡ fresh z.setting.shape (opened_again o)
+abbrev pub IsReopenedAs : ZoneState → Opened → Type 0
+IsReopenedAs z o = kept_of z ≡ fresh z.setting.shape (opened_again o)
 
 -- The version that the file makes is after those that were shown. No update made it: its update means
 -- nothing.
 pub record HasLoaded (file : List Record) (old new : ZoneState) : Type 0 where
-  pub filed : IsFiled old.setting.shape (length old.shown) (shown_of (kept_of old)) file
+  pub filed : MayLoad old file
   pub made : Made
   pub records : made.records ≡ file
   pub opened : IsOpenedWith (made ∷ []) old new
+
+-- So it is, or it is opened without that version.
+abbrev pub MayHaveLoaded : List Record → ZoneState → ZoneState → Type 0
+MayHaveLoaded file old new = HasLoaded file old new ⊎ IsOpenedWith [] old new
 
 -- The machine is stopped: nothing waits, and nobody is connected. The zone at the position becomes another
 -- so, and all else stays.
@@ -78,25 +90,25 @@ pub record IsTended (becomes : ZoneState → ZoneState → Type 0) (index : ℕ)
   pub made : becomes zone next
   pub is : new ≡ record old { zones = slice_set old.zones index next }
 
-abbrev pub Follows : Machine → Act → Type 0
-Follows m (Ran moment) = Happens m moment
-Follows m (Loaded index file new) = IsTended (HasLoaded file) index m new
-Follows m (Reopened index new) = IsTended (IsOpenedWith []) index m new
+abbrev pub MayFollow : Machine → Act → Type 0
+MayFollow m (Ran moment) = Happens m moment
+MayFollow m (Loaded index file new) = IsTended (HasLoaded file) index m new
+MayFollow m (Reopened index new) = IsTended (IsOpenedWith []) index m new
 
 -- Each of these happens to the machine that those before it left.
 abbrev pub Life : Machine → List Act → Type 0
 Life m [] = Unit {0}
-Life m (act ∷ rest) = Follows m act × Life (machine_of act) rest
+Life m (act ∷ rest) = MayFollow m act × Life (machine_after_act act) rest
 
-abbrev pub end_of : Machine → List Act → Machine
-end_of m [] = m
-end_of m (act ∷ rest) = end_of (machine_of act) rest
+abbrev pub end_of_life : Machine → List Act → Machine
+end_of_life m [] = m
+end_of_life m (act ∷ rest) = end_of_life (machine_after_act act) rest
 
 -- What goes out in an act: nothing but in a run.
-abbrev pub sent_by : Act → List Sent
-sent_by (Ran moment) = sent_in moment
-sent_by (Loaded index file new) = []
-sent_by (Reopened index new) = []
+abbrev pub sent_in_act : Act → List Sent
+sent_in_act (Ran moment) = sent_in moment
+sent_in_act (Loaded index file new) = []
+sent_in_act (Reopened index new) = []
 
 abbrev pub BringsBy : Machine → Act → ZoneState → Message → Type 0
 BringsBy m (Ran moment) z update = BringsIn m moment z update
@@ -106,23 +118,24 @@ BringsBy m (Reopened index new) z update = ⊥
 -- The update came in one of these acts, from an address that might update the zone then.
 abbrev pub CameAlong : Machine → List Act → ZoneState → Message → Type 0
 CameAlong m [] z update = ⊥
-CameAlong m (act ∷ rest) z update = BringsBy m act z update ⊎ CameAlong (machine_of act) rest z update
+CameAlong m (act ∷ rest) z update = BringsBy m act z update ⊎ CameAlong (machine_after_act act) rest z update
 
 -- The zone at the position has this one's name and the sizes of its store.
-pub record IsAt (m : Machine) (index : ℕ) (z : ZoneState) : Type 0 where
+pub record StandsAt (m : Machine) (index : ℕ) (z : ZoneState) : Type 0 where
   pub zone : ZoneState
   pub there : slice_get m.zones index ≡ Some zone
   pub shape : zone.setting.shape ≡ z.setting.shape
 
 abbrev pub LoadsBy : Machine → Act → ZoneState → List Record → Type 0
 LoadsBy m (Ran moment) z records = ⊥
-LoadsBy m (Loaded index file new) z records = (records ≡ file) × IsAt m index z
+LoadsBy m (Loaded index file new) z records = (records ≡ file) × StandsAt m index z
 LoadsBy m (Reopened index new) z records = ⊥
 
 -- The records are a file's that was loaded into the zone's store in one of these acts.
 abbrev pub LoadedAlong : Machine → List Act → ZoneState → List Record → Type 0
 LoadedAlong m [] z records = ⊥
-LoadedAlong m (act ∷ rest) z records = LoadsBy m act z records ⊎ LoadedAlong (machine_of act) rest z records
+LoadedAlong m (act ∷ rest) z records =
+    LoadsBy m act z records ⊎ LoadedAlong (machine_after_act act) rest z records
 
 -- A version after another: an update came in the life and was accepted on the one before, with room for what
 -- it leaves; or a file was loaded in the life, valid, with a greater serial and with room.
@@ -145,8 +158,8 @@ pub record HasGrown (start : Machine) (life : List Act) (old new : ZoneState) : 
 
 -- What was shown after an act, and what was answered in it, is true of these zones.
 pub record StaysTrueOf (zones : List ZoneState) (act : Act) : Type 0 where
-  pub shown : AllLast (machine_of act).zones zones
-  pub answered : AllByRecursion (IsTrueIn zones) (sent_by act)
+  pub shown : AllLast (machine_after_act act).zones zones
+  pub answered : AllByRecursion (IsTrueIn zones) (sent_in_act act)
 
 -- How often a store was opened in these acts, at most.
 abbrev pub openings_of : List Act → ℕ
@@ -156,7 +169,7 @@ openings_of (Loaded index file new ∷ rest) = suc (openings_of rest)
 openings_of (Reopened index new ∷ rest) = suc (openings_of rest)
 
 -- A machine that is not running: nothing waits, and nothing is staged.
-pub record IsAtRest (m : Machine) : Type 0 where
+pub record IsMachineAtRest (m : Machine) : Type 0 where
   pub waiting : m.waiting ≡ []
   pub staged : AllByRecursion (λ z. z.staged ≡ []) m.zones
 
@@ -166,7 +179,7 @@ pub record IsAtRest (m : Machine) : Type 0 where
 -- shown and all that was answered NOERROR at any time of the life. No store says that it was opened more
 -- often than it was.
 pub record Legacy (start : Machine) (life : List Act) : Type 0 where
-  pub loaded : AllLast start.zones (end_of start life).zones
-  pub grown : Each2 (HasGrown start life) start.zones (end_of start life).zones
-  pub openings : Each2 (IsOpenedAtMost (openings_of life)) start.zones (end_of start life).zones
-  pub acts : AllByRecursion (StaysTrueOf (end_of start life).zones) life
+  pub loaded : AllLast start.zones (end_of_life start life).zones
+  pub grown : Each2 (HasGrown start life) start.zones (end_of_life start life).zones
+  pub openings : Each2 (IsOpenedAtMost (openings_of life)) start.zones (end_of_life start life).zones
+  pub acts : AllByRecursion (StaysTrueOf (end_of_life start life).zones) life

@@ -9,7 +9,7 @@ use Rattle.dns_primary.specs.Machine.{Machine, sending_at}
 use Rattle.dns_primary.specs.Step.{Arrives, Effects}
 use Rattle.dns_primary.specs.Runs.{Moment, Took, Run, last_of}
 use Rattle.dns_theorem.specs.Headline.{AreOctetsIn, IsGivenOut, pumped_in}
-use Rattle.dns_theorem.specs.Lives.{Act, Life, end_of}
+use Rattle.dns_theorem.specs.Lives.{Act, Life, end_of_life}
 use Rattle.dns_theorem.specs.Followed.{BeginsSoundly, IsSoundAct}
 
 -- Each message is the one compressed text of a valid reply, and reads as that; and the answers of these
@@ -42,9 +42,9 @@ TransfersAreReadThroughLife =
     → BeginsSoundly start
     → Life start earlier
     → AllByRecursion IsSoundAct earlier
-    → Run (end_of start earlier) (Took (Arrives number octets) fails effects opened ∷ later)
+    → Run (end_of_life start earlier) (Took (Arrives number octets) fails effects opened ∷ later)
     → AllByRecursion (λ octet. octet < 256) octets
-    → sending_at number (end_of start earlier).connections ≡ None
+    → sending_at number (end_of_life start earlier).connections ≡ None
     → sending_at number opened.connections ≡ Some sending
     → IsGivenOut number (Some sending) later
     → ReadsAsSent sending (pumped_in number later)

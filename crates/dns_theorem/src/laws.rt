@@ -1,8 +1,8 @@
 //! The laws that join what `dns_transfer` sends to what `dns_secondary` makes of it, and both to the machine.
-ghost use Rattle.std.specs.Prelude.{◌≡◌, ◌⊎◌, ◌≤◌, ℕ, List, [], None, length};
+ghost use Rattle.std.specs.Prelude.{◌≡◌, ◌≤◌, ℕ, List, [], None, length};
 ghost use Rattle.dns_records.specs.Record.{Record};
 ghost use Rattle.dns_store.specs.Migrating.{IsMigrated};
-ghost use Rattle.dns_store.specs.Versions.{IsLeftOf, Opened, made_durable, moved_to, shown_of, staged_with};
+ghost use Rattle.dns_store.specs.Versions.{IsLeftOf, Opened, made_durable, moved_to};
 ghost use Rattle.dns_primary.specs.Bounds.{IsBounded};
 ghost use Rattle.dns_primary.specs.Fresh.{IsStart};
 ghost use Rattle.dns_primary.specs.Machine.{Machine, ZoneState, kept_of};
@@ -10,8 +10,8 @@ ghost use Rattle.dns_theorem.specs.Copies.{TransferIsTaken, TransferIsFollowed};
 ghost use Rattle.dns_theorem.specs.Followed.{BeginsSoundly, DatagramsAreFollowed};
 ghost use Rattle.dns_theorem.specs.Followed.{TransfersAreFollowedThroughLife};
 ghost use Rattle.dns_theorem.specs.Headline.{BeginsLoaded, BeginsResumed, TransfersAreFollowed};
-ghost use Rattle.dns_theorem.specs.Lives.{Act, HasLoaded, IsAtRest, IsFiled, IsOpenedAs, IsOpenedWith};
-ghost use Rattle.dns_theorem.specs.Lives.{Legacy, Life, end_of};
+ghost use Rattle.dns_theorem.specs.Lives.{Act, HasLoaded, IsMachineAtRest, IsReopenedAs, IsOpenedWith};
+ghost use Rattle.dns_theorem.specs.Lives.{Legacy, Life, MayHaveLoaded, MayLoad, end_of_life, loading};
 ghost use Rattle.dns_theorem.specs.Messages.{TransfersAreRead, TransfersAreReadThroughLife};
 
 /// The records of a transfer mean the version that is shown to whoever holds nothing, or an older version of
@@ -54,21 +54,19 @@ pub fn headline_law()
 pub fn acts_law()
     ensures loaded { (z : ZoneState) (file : List Record) (base : ℕ) (o : Opened)
         → z.staged ≡ [] → z.second ≡ None → base ≤ length z.shown
-        → IsFiled z.setting.shape (length z.shown) (shown_of (kept_of z)) file
-        → IsLeftOf (staged_with file (moved_to base (kept_of z))) o
-        → (w : ZoneState) × (HasLoaded file z w ⊎ IsOpenedWith [] z w) × IsOpenedAs w o }
+        → MayLoad z file → IsLeftOf (loading z file base) o
+        → (w : ZoneState) × MayHaveLoaded file z w × IsReopenedAs w o }
     ensures kept { (z : ZoneState) (file : List Record) (base : ℕ) (o : Opened)
         → z.staged ≡ [] → z.second ≡ None → base ≤ length z.shown
-        → IsFiled z.setting.shape (length z.shown) (shown_of (kept_of z)) file
-        → IsLeftOf (made_durable (staged_with file (moved_to base (kept_of z)))) o
-        → (w : ZoneState) × HasLoaded file z w × IsOpenedAs w o }
+        → MayLoad z file → IsLeftOf (made_durable (loading z file base)) o
+        → (w : ZoneState) × HasLoaded file z w × IsReopenedAs w o }
     ensures reopened { (z : ZoneState) (base : ℕ) (o : Opened)
         → z.staged ≡ [] → z.second ≡ None → base ≤ length z.shown
         → IsLeftOf (moved_to base (kept_of z)) o
-        → (w : ZoneState) × IsOpenedWith [] z w × IsOpenedAs w o }
+        → (w : ZoneState) × IsOpenedWith [] z w × IsReopenedAs w o }
     ensures migrated { (z : ZoneState) (before after : Opened)
-        → IsOpenedAs z before → IsMigrated z.setting.shape before after
-        → (w : ZoneState) × IsOpenedWith [] z w × IsOpenedAs w after }
+        → IsReopenedAs z before → IsMigrated z.setting.shape before after
+        → (w : ZoneState) × IsOpenedWith [] z w × IsReopenedAs w after }
 {}
 
 /// Whoever holds nothing of a zone, or a version that was shown of it at any time in the life of the primary,
@@ -114,8 +112,8 @@ pub fn messages_law()
 /// It holds from any machine at rest, whatever its stores held before, as from one that begins.
 pub fn lives_law()
     ensures leaves { (start : Machine) (life : List Act)
-        → IsAtRest start → Life start life → Legacy start life }
+        → IsMachineAtRest start → Life start life → Legacy start life }
     ensures bounded { (start : Machine) (life : List Act)
-        → IsAtRest start → Life start life → IsBounded (end_of start life) }
-    ensures begins { (start : Machine) → IsStart start → IsAtRest start }
+        → IsMachineAtRest start → Life start life → IsBounded (end_of_life start life) }
+    ensures begins { (start : Machine) → IsStart start → IsMachineAtRest start }
 {}

@@ -4,16 +4,34 @@ use Rattle.std.specs.Prelude.{IfOk, MatchResult, is_some}
 use Rattle.std.specs.Option.{option_copied}
 use Rattle.std.specs.List.{AllZip}
 use Rattle.dns_sectors.specs.declared.device.Sectors.{Ghosts}
+use Rattle.dns_configuration.specs.Calls.{Calls}
 use Rattle.dns_configuration.specs.declared.files.File.{File}
 use Rattle.dns_devices.specs.DeviceCalls.{DeviceCall}
 use Rattle.dns_service.specs.declared.server.ServeOptions.{ServeOptions}
+use Rattle.dns_service.specs.Serve.{ServerEnds}
+use Rattle.dns_fetch.specs.Connecting.{ConnectCall}
+use Rattle.dns_fetch.specs.Fetch.{FetchingEnds, StreamGhosts}
 use Rattle.dns_commands.specs.Compare.{ComparisonEnds}
 use Rattle.dns_commands.specs.Dump.{DumpEnds}
+use Rattle.dns_commands.specs.Diff.{DiffEnds}
 use Rattle.dns_commands.specs.DumpAt.{DumpAtEnds}
 use Rattle.dns_commands.specs.Frame.{Ended}
+use Rattle.dns_commands.specs.History.{HistoryEnds}
+use Rattle.dns_commands.specs.Init.{InitEnds}
 use Rattle.dns_commands.specs.Inputs.{AreFilesOf, AreFirstOf, Input, IsInput}
 use Rattle.dns_commands.specs.LoadRun.{LoadEnds}
+use Rattle.dns_commands.specs.Verify.{VerifyEnds}
+use Rattle.dnsprim.specs.declared.command.Diffing.{Diffing}
+use Rattle.dnsprim.specs.declared.command.Dumping.{Dumping}
+use Rattle.dnsprim.specs.declared.command.Fetching.{Fetching}
+use Rattle.dnsprim.specs.declared.command.Listing.{Listing}
+use Rattle.dnsprim.specs.declared.command.Loading.{Loading}
+use Rattle.dnsprim.specs.declared.command.Making.{Making}
+use Rattle.dnsprim.specs.declared.command.Replaying.{Replaying}
 use Rattle.dnsprim.specs.declared.command.Serving.{Serving}
+use Rattle.dnsprim.specs.declared.command.Verifying.{Verifying}
+use Rattle.dnsprim.specs.declared.tasks.FetchRun.{FetchRun}
+use Rattle.dnsprim.specs.declared.tasks.ServeRun.{ServeRun}
 
 -- The paths of files that were read, in order.
 abbrev pub paths_of : List Input → List (List ℕ)
@@ -83,6 +101,26 @@ abbrev pub Loads : {D : Type 0} → Ghosts D → File → List File → List ℕ
 Loads g config files origin true = ComparisonEnds g config files origin
 Loads g config files origin false = LoadEnds g config files origin
 
+module _ {D : Type 0} (g : Ghosts D) where
+  -- The commands end so by their words.
+  abbrev pub MakesBy : Making → File → List File → Ended (DeviceCall D) → Type 0
+  MakesBy words config files = InitEnds g config (option_copied words.origin) files
+
+  abbrev pub DumpsBy : Dumping → File → Ended (DeviceCall D) → Type 0
+  DumpsBy words config = Dumps g config words.origin.now words.serial
+
+  abbrev pub DiffsBy : Diffing → File → Ended (DeviceCall D) → Type 0
+  DiffsBy words config = DiffEnds g config words.origin.now words.from words.to words.as_update
+
+  abbrev pub ListsBy : Listing → File → Ended (DeviceCall D) → Type 0
+  ListsBy words config = HistoryEnds g config words.origin.now words.records
+
+  abbrev pub LoadsFileBy : Loading → File → List File → Ended (DeviceCall D) → Type 0
+  LoadsFileBy words config files = Loads g config files words.origin.now words.dry_run
+
+  abbrev pub VerifiesBy : Verifying → File → Ended (DeviceCall D) → Type 0
+  VerifiesBy words config = VerifyEnds g config (option_copied words.origin) words.every_sector
+
 -- The options of `serve`, by its words.
 abbrev pub options_of : Serving → Bool → ServeOptions
 options_of words explain = record {
@@ -93,3 +131,38 @@ options_of words explain = record {
   is_recorded = is_some words.record;
   explain = explain;
 }
+
+-- A run of `serve` by its words and a configuration ended with that status, by the calls that it made and
+-- what its streams held before and after it.
+abbrev pub ServesBy : {D F R O E W : Type 0} → Ghosts D → (F → Option (List (DeviceCall D)))
+    → (O → Option (List ℕ)) → (E → Option (List ℕ)) → (W → Option (List ℕ)) → ServeRun R F O E W
+    → ServeRun R F O E W → Serving → File → ℕ → Type 0
+ServesBy g called output log script before after words config status =
+    ServerEnds g called output log script before.devices after.devices before.streams after.streams config
+    (options_of words before.explain) status
+
+-- So did a run of `fetch`, of whose zone this file holds an older version.
+abbrev pub FetchesBy : {S V P W E : Type 0} → StreamGhosts S → (V → Option (List (ConnectCall S)))
+    → (W → Option (List ℕ)) → (E → Option (List ℕ)) → FetchRun V P W E → FetchRun V P W E → Fetching
+    → Option File → ℕ → Type 0
+FetchesBy g called printed reported before after words since status =
+    FetchingEnds g (called before.servers) (called after.servers) words.server.now words.origin.now since
+    before.explain (printed before.out) (printed after.out) (reported before.err) (reported after.err) status
+
+-- What the run of a command read: the file at this path, and of it and the status P holds.
+abbrev pub OverFile : {N X : Type 0} → (N → Option (List Input)) → N → N → List ℕ → Result ℕ X
+    → (File → ℕ → Type 0) → Type 0
+OverFile read before after path ended P =
+    Calls (read before) (read after) (λ reads. ReadsAlone reads path ended P)
+
+-- ... the file of a configuration at this path, and its master files.
+abbrev pub OverFiles : {N X : Type 0} → (N → Option (List Input)) → N → N → List ℕ → Result ℕ X
+    → (File → List File → ℕ → Type 0) → Type 0
+OverFiles read before after path ended P =
+    Calls (read before) (read after) (λ reads. ReadsAll reads path ended P)
+
+-- ... the file of a script before those.
+abbrev pub OverScript : {N X : Type 0} → (N → Option (List Input)) → N → N → Replaying → Result ℕ X
+    → (File → File → List File → ℕ → Type 0) → Type 0
+OverScript read before after words ended P =
+    Calls (read before) (read after) (λ reads. ReadsScript reads words.script.now words.config.now ended P)

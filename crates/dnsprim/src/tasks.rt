@@ -5,20 +5,12 @@ ghost use Rattle.std.specs.List.{AllZip};
 ghost use Rattle.dns_configuration.specs.Calls.{Calls};
 ghost use Rattle.dns_commands.specs.Check.{CheckEnds};
 ghost use Rattle.dns_commands.specs.CheckConfiguration.{ConfigurationCheckEnds};
-ghost use Rattle.dns_commands.specs.Diff.{DiffEnds};
-ghost use Rattle.dns_commands.specs.Frame.{RunEnds};
-ghost use Rattle.dns_commands.specs.History.{HistoryEnds};
-ghost use Rattle.dns_commands.specs.Init.{InitEnds};
+ghost use Rattle.dns_commands.specs.Frame.{RunEnds, WritesEnd};
 ghost use Rattle.dns_commands.specs.Inputs.{IsInput, inputs_of};
 ghost use Rattle.dns_commands.specs.Migrate.{MigrateEnds};
 ghost use Rattle.dns_commands.specs.Replay.{ReplayEnds};
-ghost use Rattle.dns_commands.specs.Verify.{VerifyEnds};
-ghost use Rattle.dns_fetch.specs.Connecting.{ConnectsOnce, IsReached};
-ghost use Rattle.dns_fetch.specs.Fetch.{FetchEnds};
-ghost use Rattle.dns_service.specs.Serve.{ServingEnds};
-ghost use Rattle.dns_service.specs.Telling.{texts_of};
-ghost use Rattle.dnsprim.specs.Tasks.{Dumps, Loads, ReadsAll, ReadsAlone, ReadsScript, ReadsSince};
-ghost use Rattle.dnsprim.specs.Tasks.{options_of};
+ghost use Rattle.dnsprim.specs.Tasks.{DiffsBy, DumpsBy, FetchesBy, ListsBy, LoadsFileBy, MakesBy};
+ghost use Rattle.dnsprim.specs.Tasks.{OverFile, OverFiles, OverScript, ReadsSince, ServesBy, VerifiesBy};
 
 use crate::command::{
     Checking, Diffing, Dumping, Fetching, Listing, Loading, Making, Replaying, Serving, Verifying,
@@ -60,10 +52,9 @@ pub fn check_file<N: Inputs, W: Write, E: Write>(
     run: &mut Run<(), W, E>,
     words: Checking<'_>,
 ) -> io::Result<u8>
-    ensures { Calls (N.reads inputs.old) (N.reads inputs.new) (λ reads.
-        ReadsAlone reads words.entry.file.now result (λ file status.
-        CheckEnds (option_copied file.octets) file.path.now words.entry.origin.now (W.contents run.old.out)
-        (W.contents run.new.out) (E.contents run.old.err) (E.contents run.new.err) status)) }
+    ensures { OverFile N.reads inputs.old inputs.new words.entry.file.now result
+        (λ file. WritesEnd W.contents E.contents run.old run.new
+        (CheckEnds (option_copied file.octets) file.path.now words.entry.origin.now)) }
 {
     let text = inputs.octets(words.file)?;
     let input = file(words.file, &text);
@@ -76,10 +67,9 @@ pub fn check_files<N: Inputs, W: Write, E: Write>(
     run: &mut Run<(), W, E>,
     config: &str,
 ) -> io::Result<u8>
-    ensures { Calls (N.reads inputs.old) (N.reads inputs.new) (λ reads.
-        ReadsAll reads config.now result (λ config files status.
-        ConfigurationCheckEnds config files run.old.explain (W.contents run.old.out)
-        (W.contents run.new.out) (E.contents run.old.err) (E.contents run.new.err) status)) }
+    ensures { OverFiles N.reads inputs.old inputs.new config.now result
+        (λ config files. WritesEnd W.contents E.contents run.old run.new
+        (ConfigurationCheckEnds config files run.old.explain)) }
 {
     let text = inputs.octets(config)?;
     let config = file(config, &text);
@@ -94,11 +84,10 @@ pub fn replay_files<N: Inputs, W: Write, E: Write>(
     run: &mut Run<(), W, E>,
     words: Replaying<'_>,
 ) -> io::Result<u8>
-    ensures { Calls (N.reads inputs.old) (N.reads inputs.new) (λ reads.
-        ReadsScript reads words.entry.script.now words.entry.config.now result (λ script config files status.
-        ReplayEnds ⟦<MemorySectors as Sectors>⟧ ⟦<MemorySectors as ScriptDevice>⟧.left_by config files
-        script (W.contents run.old.out) (W.contents run.new.out) (E.contents run.old.err)
-        (E.contents run.new.err) status)) }
+    ensures { OverScript N.reads inputs.old inputs.new words.entry result
+        (λ script config files. WritesEnd W.contents E.contents run.old run.new
+        (ReplayEnds ⟦<MemorySectors as Sectors>⟧ ⟦<MemorySectors as ScriptDevice>⟧.left_by config files
+        script)) }
 {
     let script_text = inputs.octets(words.script)?;
     let script = file(words.script, &script_text);
@@ -115,10 +104,9 @@ pub fn init_files<N: Inputs, D: Sectors + Drop, F: NewDevices<D>, W: Write, E: W
     run: &mut Run<F, W, E>,
     words: Making<'_>,
 ) -> io::Result<u8>
-    ensures { Calls (N.reads inputs.old) (N.reads inputs.new) (λ reads.
-        ReadsAll reads words.entry.config.now result (λ config files status.
-        RunEnds F.calls W.contents E.contents run.old run.new status
-        (InitEnds D.Sectors config (option_copied words.entry.origin) files))) }
+    ensures { OverFiles N.reads inputs.old inputs.new words.entry.config.now result
+        (λ config files status. RunEnds F.calls W.contents E.contents run.old run.new status
+        (MakesBy D.Sectors words.entry config files)) }
 {
     let text = inputs.octets(words.config)?;
     let config = file(words.config, &text);
@@ -134,7 +122,7 @@ fn dump_by<D: Sectors + Drop, F: Devices<D>, W: Write, E: Write>(
     words: Dumping<'_>,
 ) -> u8
     ensures { RunEnds F.calls W.contents E.contents run.old run.new result
-        (Dumps D.Sectors config.now words.entry.origin.now words.entry.serial) }
+        (DumpsBy D.Sectors words.entry config.now) }
 {
     match words.serial {
         Some(serial) => dump_at::<D, F, Index, W, E>(run, config, words.origin, serial),
@@ -148,10 +136,9 @@ pub fn dump_file<N: Inputs, D: Sectors + Drop, F: Devices<D>, W: Write, E: Write
     run: &mut Run<F, W, E>,
     words: Dumping<'_>,
 ) -> io::Result<u8>
-    ensures { Calls (N.reads inputs.old) (N.reads inputs.new) (λ reads.
-        ReadsAlone reads words.entry.config.now result (λ config status.
-        RunEnds F.calls W.contents E.contents run.old run.new status
-        (Dumps D.Sectors config words.entry.origin.now words.entry.serial))) }
+    ensures { OverFile N.reads inputs.old inputs.new words.entry.config.now result
+        (λ config status. RunEnds F.calls W.contents E.contents run.old run.new status
+        (DumpsBy D.Sectors words.entry config)) }
 {
     let text = inputs.octets(words.config)?;
     let config = file(words.config, &text);
@@ -164,11 +151,9 @@ pub fn diff_file<N: Inputs, D: Sectors + Drop, F: Devices<D>, W: Write, E: Write
     run: &mut Run<F, W, E>,
     words: Diffing<'_>,
 ) -> io::Result<u8>
-    ensures { Calls (N.reads inputs.old) (N.reads inputs.new) (λ reads.
-        ReadsAlone reads words.entry.config.now result (λ config status.
-        RunEnds F.calls W.contents E.contents run.old run.new status
-        (DiffEnds D.Sectors config words.entry.origin.now words.entry.from words.entry.to
-        words.entry.as_update))) }
+    ensures { OverFile N.reads inputs.old inputs.new words.entry.config.now result
+        (λ config status. RunEnds F.calls W.contents E.contents run.old run.new status
+        (DiffsBy D.Sectors words.entry config)) }
 {
     let text = inputs.octets(words.config)?;
     let config = file(words.config, &text);
@@ -188,10 +173,9 @@ pub fn history_file<N: Inputs, D: Sectors + Drop, F: Devices<D>, W: Write, E: Wr
     run: &mut Run<F, W, E>,
     words: Listing<'_>,
 ) -> io::Result<u8>
-    ensures { Calls (N.reads inputs.old) (N.reads inputs.new) (λ reads.
-        ReadsAlone reads words.entry.config.now result (λ config status.
-        RunEnds F.calls W.contents E.contents run.old run.new status
-        (HistoryEnds D.Sectors config words.entry.origin.now words.entry.records))) }
+    ensures { OverFile N.reads inputs.old inputs.new words.entry.config.now result
+        (λ config status. RunEnds F.calls W.contents E.contents run.old run.new status
+        (ListsBy D.Sectors words.entry config)) }
 {
     let text = inputs.octets(words.config)?;
     let config = file(words.config, &text);
@@ -206,7 +190,7 @@ fn load_by<D: Sectors + Drop, F: Devices<D>, W: Write, E: Write>(
     words: Loading<'_>,
 ) -> u8
     ensures { RunEnds F.calls W.contents E.contents run.old run.new result
-        (Loads D.Sectors config.now files.now words.entry.origin.now words.entry.dry_run) }
+        (LoadsFileBy D.Sectors words.entry config.now files.now) }
 {
     match words.dry_run {
         true => compare::<D, F, Index, W, E>(run, config, files, words.origin),
@@ -220,10 +204,9 @@ pub fn load_files<N: Inputs, D: Sectors + Drop, F: Devices<D>, W: Write, E: Writ
     run: &mut Run<F, W, E>,
     words: Loading<'_>,
 ) -> io::Result<u8>
-    ensures { Calls (N.reads inputs.old) (N.reads inputs.new) (λ reads.
-        ReadsAll reads words.entry.config.now result (λ config files status.
-        RunEnds F.calls W.contents E.contents run.old run.new status
-        (Loads D.Sectors config files words.entry.origin.now words.entry.dry_run))) }
+    ensures { OverFiles N.reads inputs.old inputs.new words.entry.config.now result
+        (λ config files status. RunEnds F.calls W.contents E.contents run.old run.new status
+        (LoadsFileBy D.Sectors words.entry config files)) }
 {
     let text = inputs.octets(words.config)?;
     let config = file(words.config, &text);
@@ -238,9 +221,9 @@ pub fn migrate_file<N: Inputs, D: Sectors + Drop, F: Devices<D>, W: Write, E: Wr
     run: &mut Run<F, W, E>,
     config: &str,
 ) -> io::Result<u8>
-    ensures { Calls (N.reads inputs.old) (N.reads inputs.new) (λ reads.
-        ReadsAlone reads config.now result (λ config status.
-        RunEnds F.calls W.contents E.contents run.old run.new status (MigrateEnds D.Sectors config))) }
+    ensures { OverFile N.reads inputs.old inputs.new config.now result
+        (λ config status. RunEnds F.calls W.contents E.contents run.old run.new status
+        (MigrateEnds D.Sectors config)) }
 {
     let text = inputs.octets(config)?;
     let config = file(config, &text);
@@ -253,10 +236,9 @@ pub fn verify_file<N: Inputs, D: Sectors + Drop, F: DevicesToRead<D>, W: Write, 
     run: &mut Run<F, W, E>,
     words: Verifying<'_>,
 ) -> io::Result<u8>
-    ensures { Calls (N.reads inputs.old) (N.reads inputs.new) (λ reads.
-        ReadsAlone reads words.entry.config.now result (λ config status.
-        RunEnds F.calls W.contents E.contents run.old run.new status
-        (VerifyEnds D.Sectors config (option_copied words.entry.origin) words.entry.every_sector))) }
+    ensures { OverFile N.reads inputs.old inputs.new words.entry.config.now result
+        (λ config status. RunEnds F.calls W.contents E.contents run.old run.new status
+        (VerifiesBy D.Sectors words.entry config)) }
 {
     let text = inputs.octets(words.config)?;
     let config = file(words.config, &text);
@@ -284,12 +266,8 @@ pub fn serve_file<
     E: Write,
     W: Write,
 >(inputs: &mut N, run: &mut ServeRun<'_, R, F, O, E, W>, words: Serving<'_>) -> io::Result<u8>
-    ensures { Calls (N.reads inputs.old) (N.reads inputs.new) (λ reads.
-        ReadsAlone reads words.entry.config.now result (λ config status.
-        Calls (F.calls run.old.devices) (F.calls run.new.devices) (λ calls.
-        ServingEnds D.Sectors calls config (options_of words.entry run.old.explain)
-        (texts_of O.contents E.contents W.contents run.old.streams)
-        (texts_of O.contents E.contents W.contents run.new.streams) status))) }
+    ensures { OverFile N.reads inputs.old inputs.new words.entry.config.now result
+        (ServesBy D.Sectors F.calls O.contents E.contents W.contents run.old run.new words.entry) }
 {
     let text = inputs.octets(words.config)?;
     let config = file(words.config, &text);
@@ -329,11 +307,8 @@ fn fetch_from<S: WaitingStream + Drop, V: Servers<S>, P: Watch, W: Write, E: Wri
     words: Fetching<'_>,
     since: Option<&File<'_>>,
 ) -> u8
-    ensures { Calls (V.calls run.old.servers) (V.calls run.new.servers) (λ calls.
-        ConnectsOnce words.entry.server.now calls
-        × FetchEnds S.Stream (IsReached calls) words.entry.server.now words.entry.origin.now
-        (option_copied since.entry) run.old.explain (W.contents run.old.out) (W.contents run.new.out)
-        (E.contents run.old.err) (E.contents run.new.err) result) }
+    ensures { FetchesBy S.Stream V.calls W.contents E.contents run.old run.new words.entry
+        (option_copied since.entry) result }
 {
     let asked = FetchRequest {
         server: words.server,
@@ -358,13 +333,8 @@ fn fetch_since<N: Inputs, S: WaitingStream + Drop, V: Servers<S>, P: Watch, W: W
     words: Fetching<'_>,
     path: &str,
 ) -> io::Result<u8>
-    ensures { Calls (N.reads inputs.old) (N.reads inputs.new) (λ reads.
-        ReadsAlone reads path.now result (λ since status.
-        Calls (V.calls run.old.servers) (V.calls run.new.servers) (λ calls.
-        ConnectsOnce words.entry.server.now calls
-        × FetchEnds S.Stream (IsReached calls) words.entry.server.now words.entry.origin.now (Some since)
-        run.old.explain (W.contents run.old.out) (W.contents run.new.out) (E.contents run.old.err)
-        (E.contents run.new.err) status))) }
+    ensures { OverFile N.reads inputs.old inputs.new path.now result
+        (λ since. FetchesBy S.Stream V.calls W.contents E.contents run.old run.new words.entry (Some since)) }
 {
     let text = inputs.octets(path)?;
     let held = file(path, &text);
@@ -377,13 +347,9 @@ pub fn fetch_zone<N: Inputs, S: WaitingStream + Drop, V: Servers<S>, P: Watch, W
     run: &mut FetchRun<V, P, W, E>,
     words: Fetching<'_>,
 ) -> io::Result<u8>
-    ensures { Calls (N.reads inputs.old) (N.reads inputs.new) (λ reads.
-        ReadsSince reads (option_copied words.entry.since) result (λ since status.
-        Calls (V.calls run.old.servers) (V.calls run.new.servers) (λ calls.
-        ConnectsOnce words.entry.server.now calls
-        × FetchEnds S.Stream (IsReached calls) words.entry.server.now words.entry.origin.now since
-        run.old.explain (W.contents run.old.out) (W.contents run.new.out) (E.contents run.old.err)
-        (E.contents run.new.err) status))) }
+    ensures { Calls (N.reads inputs.old) (N.reads inputs.new)
+        (λ reads. ReadsSince reads (option_copied words.entry.since) result
+        (FetchesBy S.Stream V.calls W.contents E.contents run.old run.new words.entry)) }
 {
     match words.since {
         Some(path) => fetch_since::<N, S, V, P, W, E>(inputs, run, words, path),

@@ -6,11 +6,12 @@ ghost use Rattle.dns_names.specs.Name.{Labels};
 ghost use Rattle.dns_zone.specs.Records.{is_ordered};
 ghost use Rattle.dns_store.specs.Checkpoint.{AllZones};
 ghost use Rattle.dns_store.specs.Recovered.{AreLed};
-ghost use Rattle.dns_store.specs.Versions.{Versions, newest_after};
+ghost use Rattle.dns_store.specs.Versions.{Versions};
 ghost use Rattle.dns_configuration.specs.Calls.{Calls};
 ghost use Rattle.dns_configuration.specs.Faults.{line};
 ghost use Rattle.dns_devices.specs.DeviceFaults.{status_of};
-ghost use Rattle.dns_commands.specs.DumpAt.{DumpAtEnds, HasNoAnswer, HasAnswer, IsChosenFrom, PickingEnds};
+ghost use Rattle.dns_commands.specs.DumpAt.{AreAllApplied, DumpAtEnds, HasAnswer, HasNoAnswer};
+ghost use Rattle.dns_commands.specs.DumpAt.{IsChosenFrom, IsMadeAfter, IsZoneAfter, PickingEnds};
 ghost use Rattle.dns_commands.specs.DumpAt.{unfound_text};
 ghost use Rattle.dns_commands.specs.Frame.{RunEnds};
 
@@ -31,8 +32,7 @@ use std::io::{self, Write};
 fn apply_all<I: ZoneIndex>(set: &mut I, changes: &[Change]) -> Result<(), ChangeError>
     ensures { (apex : Labels) (vs : Versions) → AreLed (I.records set.old) vs changes.now
         → AllZones apex vs → is_ordered (I.records set.old) ≡ true
-        → MatchResult result (λ _. I.records set.new ≡ newest_after (I.records set.old) vs)
-        (λ e. e ≡ ChangeError.OutOfMemory) }
+        → AreAllApplied (I.records set.old) (I.records set.new) vs result }
 {
     for change in changes {
         change.apply(set)?;
@@ -43,8 +43,7 @@ fn apply_all<I: ZoneIndex>(set: &mut I, changes: &[Change]) -> Result<(), Change
 /// The version that these changes lead to from a base, which on an honest device is a zone.
 fn version_after<I: ZoneIndex>(base: &Zone<I>, changes: &[Change]) -> Result<Zone<I>, ChangeError>
     ensures { (vs : Versions) → AreLed base.now.records vs changes.now → AllZones base.now.apex vs
-        → MatchResult result (λ z. (z.apex ≡ base.now.apex) × (z.records ≡ newest_after base.now.records vs))
-        (λ e. e ≡ ChangeError.OutOfMemory) }
+        → IsZoneAfter base.now vs result }
 {
     let apex = base.apex().clone()?;
     let mut set = base.index().fork()?;
@@ -62,9 +61,7 @@ fn version_or_fault<I: ZoneIndex>(
     changes: &[Change],
 ) -> Result<Option<Zone<I>>, DeviceFault>
     ensures made { (vs : Versions) → AreLed base.now.records vs changes.now → AllZones base.now.apex vs
-        → MatchResult result
-        (λ z. z ≡ Some (record { apex = base.now.apex; records = newest_after base.now.records vs }))
-        (λ e. e ≡ DeviceFault.OutOfMemory) }
+        → IsMadeAfter base.now vs result }
     ensures failed { IfErr result (λ e. status_of e ≡ FAILED) }
 {
     match version_after(base, changes) {

@@ -1,15 +1,14 @@
 //! Devices that are made: the store of each zone, from its master file.
-ghost use Rattle.std.specs.Prelude.{◌≡◌, ◌⊎◌, ◌∷◌, [], length, map, flat_map, true, OnOk, MatchOption};
+ghost use Rattle.std.specs.Prelude.{◌≡◌, ◌∷◌, [], length, map, flat_map, OnOk, MatchOption};
 ghost use Rattle.std.specs.Prelude.{MatchResult};
 ghost use Rattle.std.specs.Option.{option_copied};
 ghost use Rattle.std.specs.Result.{result_unwrap_or};
 ghost use Rattle.std.specs.Io.KnownBytes.{Appends};
-ghost use Rattle.dns_configuration.specs.Faults.{is_memory};
 ghost use Rattle.dns_configuration.specs.Calls.{Calls, HasCalled};
 ghost use Rattle.dns_commands.specs.Frame.{RunEnds};
-ghost use Rattle.dns_commands.specs.Init.{AreChosen, AreMade, InitEnds, IsDeviceMade, IsFirstFound, IsFound};
-ghost use Rattle.dns_commands.specs.Init.{IsMakingUndone, IsNotChosen, IsNotMade, MakingEnds, absent};
-ghost use Rattle.dns_commands.specs.Init.{formatted, removal, sectors_of};
+ghost use Rattle.dns_commands.specs.Init.{AreChosen, AreMade, InitEnds, IsChoiceRefused, IsDeviceMade};
+ghost use Rattle.dns_commands.specs.Init.{IsFirstFound, IsFound, IsMakingUndone, IsNotMade, MakingEnds};
+ghost use Rattle.dns_commands.specs.Init.{absent, formatted, removal, sectors_of};
 
 use crate::frame::Run;
 use dns_configuration::{
@@ -100,8 +99,7 @@ fn chosen<'s, 'o>(
 ) -> Result<&'s [ZoneSettings], (&'o str, Fault)>
     ensures { MatchResult result
         (λ chosen. AreChosen (option_copied origin.entry) zones.now chosen.now)
-        (λ r. (is_memory r.1 ≡ true)
-        ⊎ ((r.1 ≡ Fault.BadOrigin) × IsNotChosen (option_copied origin.entry) zones.now r.0.now)) }
+        (λ r. IsChoiceRefused (option_copied origin.entry) zones.now r.0.now r.1) }
 {
     let Some(origin) = origin else {
         return Ok(zones);

@@ -1,5 +1,6 @@
 //! A script over the zones of a configuration.
 ghost use Rattle.std.specs.Prelude.{◌≡◌, length, IfOk};
+ghost use Rattle.dns_commands.specs.Frame.{WritesEnd};
 ghost use Rattle.dns_commands.specs.Replay.{EndsFromFresh, ReplayEnds};
 
 use crate::commands::check::Index;
@@ -27,10 +28,9 @@ fn run_over<W: Write, E: Write>(
 ) -> io::Result<u8>
     requires known { length zones.items ≡ length known.items }
     requires own { length own.now ≡ length zones.items }
-    ensures { IfOk result
+    ensures { IfOk result (WritesEnd W.contents E.contents run.old run.new
         (EndsFromFresh ⟦<MemorySectors as Sectors>⟧ ⟦<MemorySectors as ScriptDevice>⟧.left_by
-        zones.entry.items known.entry.items own.now script.now (W.contents run.old.out)
-        (W.contents run.new.out) (E.contents run.old.err) (E.contents run.new.err)) }
+        zones.entry.items known.entry.items own.now script.now)) }
 {
     let err = &mut run.err;
     let Some(lines) = script.octets else {
@@ -56,10 +56,9 @@ fn replayed<W: Write, E: Write>(
     files: &[File<'_>],
     script: &File<'_>,
 ) -> io::Result<u8>
-    ensures { IfOk result
+    ensures { IfOk result (WritesEnd W.contents E.contents run.old run.new
         (ReplayEnds ⟦<MemorySectors as Sectors>⟧ ⟦<MemorySectors as ScriptDevice>⟧.left_by
-        config.now files.now script.now (W.contents run.old.out) (W.contents run.new.out)
-        (E.contents run.old.err) (E.contents run.new.err)) }
+        config.now files.now script.now)) }
 {
     let settings = match read_configuration(run.alloc, run.heap, config) {
         Ok(configuration) => configuration.zones,
@@ -85,9 +84,9 @@ pub fn replay<W: Write, E: Write>(
     files: &[File<'_>],
     script: &File<'_>,
 ) -> u8
-    ensures { ReplayEnds ⟦<MemorySectors as Sectors>⟧ ⟦<MemorySectors as ScriptDevice>⟧.left_by
-        config.now files.now script.now (W.contents run.old.out) (W.contents run.new.out)
-        (E.contents run.old.err) (E.contents run.new.err) result }
+    ensures { WritesEnd W.contents E.contents run.old run.new
+        (ReplayEnds ⟦<MemorySectors as Sectors>⟧ ⟦<MemorySectors as ScriptDevice>⟧.left_by
+        config.now files.now script.now) result }
 {
     replayed(run, config, files, script).unwrap_or(FAILED)
 }

@@ -15,9 +15,9 @@ ghost use Rattle.dns_journal.specs.Reads.{HasRisen, OnlyReads};
 ghost use Rattle.dns_configuration.specs.Calls.{Calls};
 ghost use Rattle.dns_configuration.specs.Faults.{line};
 ghost use Rattle.dns_devices.specs.DeviceFaults.{status_of};
-ghost use Rattle.dns_commands.specs.Frame.{EndsForNamed, RunEnds, run_end};
-ghost use Rattle.dns_commands.specs.Verify.{AreSpoilt, EndsForAll, Finding, IsFinding, IsNotVerified};
-ghost use Rattle.dns_commands.specs.Verify.{IsTested, IsToldAs, IsUnwell, IsVerified, IsWell, VerifyEnds};
+ghost use Rattle.dns_commands.specs.Frame.{EndsForNamed, RunEnds, ended_run};
+ghost use Rattle.dns_commands.specs.Verify.{AreSpoilt, EndsForAll, IsFoundAndTold, IsNotVerified, IsTested};
+ghost use Rattle.dns_commands.specs.Verify.{IsUnwell, IsVerified, IsWell, VerifyEnds};
 ghost use Rattle.dns_commands.specs.Verify.{VerifyingEnds, figures_line, journal_text, newest_text};
 ghost use Rattle.dns_commands.specs.Verify.{reported_of, spoilt_status, spoilt_text};
 
@@ -286,11 +286,9 @@ fn verify_one<D: Sectors + Drop, F: DevicesToRead<D>, I: ZoneIndex, W: Write, E:
     own: &ZoneSettings,
     every_sector: bool,
 ) -> io::Result<u8>
-    ensures told { Calls (F.calls run.old.devices) (F.calls run.new.devices) (λ calls. (finding : Finding)
-        × IsFinding D.Sectors every_sector calls own.now finding
-        × IfOk result (λ status. IsToldAs own.now finding
-        (run_end calls run.old.explain (W.contents run.old.out) (W.contents run.new.out)
-        (E.contents run.old.err) (E.contents run.new.err) status))) }
+    ensures told { Calls (F.calls run.old.devices) (F.calls run.new.devices)
+        (λ calls. IsFoundAndTold D.Sectors every_sector calls own.now result
+        (ended_run W.contents E.contents run.old run.new calls)) }
     ensures explain { run.new.explain ≡ run.old.explain }
 {
     match look_at::<D, F, I>(run.heap, &mut run.devices, own, every_sector) {

@@ -3,7 +3,7 @@ use Rattle.std.specs.Option.{option_copied}
 use Rattle.dns_configuration.specs.Faults.{fault_text}
 use Rattle.dns_configuration.proofs.Called.{ended_as, no_calls}
 use Rattle.dns_configuration.proofs.Told.{fault_told}
-use Rattle.dns_fetch.specs.Connecting.{IsReached}
+use Rattle.dns_fetch.specs.Connecting.{IsStreamOf}
 use Rattle.dns_fetch.specs.Fetch.{FetchEnds, IsAskedFor}
 use Rattle.dns_fetch.specs.FetchFaults.{fetch_text}
 use Rattle.dns_fetch.specs.declared.fetch_faults.FetchFault.TheVariants.{BadAddress}
@@ -18,11 +18,11 @@ returns-in-Err-held_version g c =
     let out = g.W.Write.contents c.args.out.now in
     let err = g.E.Write.contents c.args.err.now in
     let err_after = g.E.Write.contents c.tell_since.new.err in
-    let ends : ℕ → Type 0 = λ status. FetchEnds g.S.Stream (IsReached []) server origin since c.args.asked.explain out out err err_after status in
+    let ends : ℕ → Type 0 = λ status. FetchEnds g.S.Stream (IsStreamOf []) server origin since c.args.asked.explain out out err err_after status in
     no_calls _ _ (
       inl refl,
-      ended_as ends c.tell_since.result (fetch_failed g.S.Stream (IsReached []) server origin since c.args.asked.explain out out err err_after)
-          (since_told g.S.Stream (IsReached []) server origin since c.args.asked.explain c.in-Err-held_version.fault c.in-Ok.name out err err_after c.tell_since.result c.in-Ok.ensures c.in-Err-held_version.ensures.refused c.tell_since.ensures),
+      ended_as ends c.tell_since.result (fetch_failed g.S.Stream (IsStreamOf []) server origin since c.args.asked.explain out out err err_after)
+          (since_told g.S.Stream (IsStreamOf []) server origin since c.args.asked.explain c.in-Err-held_version.fault c.in-Ok.name out err err_after c.tell_since.result c.in-Ok.ensures c.in-Err-held_version.ensures.refused c.tell_since.ensures),
     )
 
 pub returns-in-Ok-take_from : goal.returns-in-Ok-take_from
@@ -41,13 +41,13 @@ returns-in-Ok-take_from g c =
     let out = g.W.Write.contents c.args.out.now in
     let out_after = g.W.Write.contents c.show_taken.new.out in
     let err = g.E.Write.contents c.args.err.now in
-    let ends : ℕ → Type 0 = λ status. FetchEnds g.S.Stream (IsReached calls) server origin since c.args.asked.explain out out_after err err status in (
+    let ends : ℕ → Type 0 = λ status. FetchEnds g.S.Stream (IsStreamOf calls) server origin since c.args.asked.explain out out_after err err status in (
       calls,
       c.in-Ok-take_from.ensures.1,
       (
         inr (c.in-Some.address, c.in-Some.ensures, one),
-        ended_as ends c.show_taken.result (fetch_failed g.S.Stream (IsReached calls) server origin since c.args.asked.explain out out_after err err)
-            (shown g.S.Stream (IsReached calls) server origin since c.args.asked.explain c.in-Some.address c.in-Ok.name c.in-Ok-held_version.held c.in-Ok-take_from.secondary.held taken.0 out out_after err c.show_taken.result
+        ended_as ends c.show_taken.result (fetch_failed g.S.Stream (IsStreamOf calls) server origin since c.args.asked.explain out out_after err err)
+            (shown g.S.Stream (IsStreamOf calls) server origin since c.args.asked.explain c.in-Some.address c.in-Ok.name c.in-Ok-held_version.held c.in-Ok-take_from.secondary.held taken.0 out out_after err c.show_taken.result
             asked taken.1 taken.2 c.show_taken.ensures),
       ),
     )
@@ -68,15 +68,15 @@ returns-in-Err-take_from g c =
       named = c.in-Ok.ensures;
       from = c.in-Ok-held_version.ensures.held;
     } in
-    let ends : ℕ → Type 0 = λ status. FetchEnds g.S.Stream (IsReached calls) server origin since c.args.asked.explain out out err err_after status in
-    let failed = fetch_failed g.S.Stream (IsReached calls) server origin since c.args.asked.explain out out err err_after in (
+    let ends : ℕ → Type 0 = λ status. FetchEnds g.S.Stream (IsStreamOf calls) server origin since c.args.asked.explain out out err err_after status in
+    let failed = fetch_failed g.S.Stream (IsStreamOf calls) server origin since c.args.asked.explain out out err err_after in (
       calls,
       c.in-Err-take_from.ensures.1,
       (
         inr (c.in-Some.address, c.in-Some.ensures, one),
         ended_as ends c.tell_fetch-in-Err-take_from.result failed
             (fetch_told ends server fault c.args.asked.explain err err_after c.tell_fetch-in-Err-take_from.result c.tell_fetch-in-Err-take_from.ensures failed
-            (λ is said. answer_told g.S.Stream (IsReached calls) server origin since c.args.asked.explain c.in-Some.address c.in-Ok.name c.in-Ok-held_version.held fault out err err_after asked c.in-Err-take_from.ensures.2.1 is said)),
+            (λ is said. answer_told g.S.Stream (IsStreamOf calls) server origin since c.args.asked.explain c.in-Some.address c.in-Ok.name c.in-Ok-held_version.held fault out err err_after asked c.in-Err-take_from.ensures.2.1 is said)),
       ),
     )
 
@@ -89,13 +89,13 @@ returns-in_default g c =
     let out = g.W.Write.contents c.args.out.now in
     let err = g.E.Write.contents c.args.err.now in
     let err_after = g.E.Write.contents c.tell_fetch.new.err in
-    let ends : ℕ → Type 0 = λ status. FetchEnds g.S.Stream (IsReached []) server origin since c.args.asked.explain out out err err_after status in
-    let failed = fetch_failed g.S.Stream (IsReached []) server origin since c.args.asked.explain out out err err_after in
+    let ends : ℕ → Type 0 = λ status. FetchEnds g.S.Stream (IsStreamOf []) server origin since c.args.asked.explain out out err err_after status in
+    let failed = fetch_failed g.S.Stream (IsStreamOf []) server origin since c.args.asked.explain out out err err_after in
     no_calls _ _ (
       inl refl,
       ended_as ends c.tell_fetch.result failed
           (fetch_told ends server fault c.args.asked.explain err err_after c.tell_fetch.result c.tell_fetch.ensures failed
-          (λ _ said. not_asked g.S.Stream (IsReached []) server origin since c.args.asked.explain out err err_after (fetch_text server BadAddress c.args.asked.explain) (inl (c.in_default.ensures, refl)) said)),
+          (λ _ said. not_asked g.S.Stream (IsStreamOf []) server origin since c.args.asked.explain out err err_after (fetch_text server BadAddress c.args.asked.explain) (inl (c.in_default.ensures, refl)) said)),
     )
 
 pub returns-in-Err : goal.returns-in-Err
@@ -107,11 +107,11 @@ returns-in-Err g c =
     let out = g.W.Write.contents c.args.out.now in
     let err = g.E.Write.contents c.args.err.now in
     let err_after = g.E.Write.contents c.tell.new.err in
-    let ends : ℕ → Type 0 = λ status. FetchEnds g.S.Stream (IsReached []) server origin since c.args.asked.explain out out err err_after status in
-    let failed = fetch_failed g.S.Stream (IsReached []) server origin since c.args.asked.explain out out err err_after in
+    let ends : ℕ → Type 0 = λ status. FetchEnds g.S.Stream (IsStreamOf []) server origin since c.args.asked.explain out out err err_after status in
+    let failed = fetch_failed g.S.Stream (IsStreamOf []) server origin since c.args.asked.explain out out err err_after in
     no_calls _ _ (
       inl refl,
       ended_as ends c.tell.result failed
           (fault_told ends origin fault err err_after c.tell.result c.tell.ensures failed
-          (λ is said. not_asked g.S.Stream (IsReached []) server origin since c.args.asked.explain out err err_after (fault_text origin fault) (no_origin g.S.Stream (IsReached []) server origin since c.args.asked.explain fault c.in-Err.ensures is) said)),
+          (λ is said. not_asked g.S.Stream (IsStreamOf []) server origin since c.args.asked.explain out err err_after (fault_text origin fault) (no_origin g.S.Stream (IsStreamOf []) server origin since c.args.asked.explain fault c.in-Err.ensures is) said)),
     )

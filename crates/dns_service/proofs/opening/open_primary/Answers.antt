@@ -3,7 +3,7 @@ use Rattle.dns_names.specs.Name.{Labels}
 use Rattle.dns_primary.specs.Open.{AreRecoverable}
 use Rattle.dns_configuration.specs.Known.{IsSettingOf, origins_of}
 use Rattle.dns_configuration.proofs.Called.{called_on, no_calls}
-use Rattle.dns_service.specs.Opening.{AreIntact}
+use Rattle.dns_service.specs.Opening.{AreDevicesIntact}
 use Rattle.dns_service.proofs.Known.{as_many, back_whole, named}
 use Rattle.dns_service.proofs.Served.{all_intact, whichever_set}
 use Rattle.dns_service.proofs.opening.open_primary.Goals as goal
@@ -22,7 +22,7 @@ returns-in-Ok-open g c =
     let zones = c.args.zones.now in
     let p = c.in-Ok-open.primary in
     let known = as_many IsSettingOf zones c.in-Ok.settings.items c.in-Ok.ensures in
-    let intact : AreIntact g.D.Sectors (origins_of zones) c.in-Ok.settings.items c.in-Ok-open_devices.given.items = subst (λ (names : List Labels). AreIntact g.D.Sectors names c.in-Ok.settings.items c.in-Ok-open_devices.given.items) c.requires
+    let intact : AreDevicesIntact g.D.Sectors (origins_of zones) c.in-Ok.settings.items c.in-Ok-open_devices.given.items = subst (λ (names : List Labels). AreDevicesIntact g.D.Sectors names c.in-Ok.settings.items c.in-Ok-open_devices.given.items) c.requires
     (all_intact _ c.args.origins.now c.in-Ok.settings.items c.in-Ok-open_devices.given.items p.zones.items p.pending.items refl (ap length c.requires ∙ named zones ∙ known) (c.in-Ok-open_devices.ensures.2.0 ∙ known) c.in-Ok-open.ensures.opened) in (
       _,
       c.in-Ok-open_devices.ensures.1,

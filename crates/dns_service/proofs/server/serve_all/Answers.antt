@@ -13,7 +13,7 @@ use Rattle.dns_service.specs.Log.{zone_lines}
 use Rattle.dns_service.specs.ServedTurns.{HasTurned, IsLedTo}
 use Rattle.dns_service.specs.Opening.{IsNotServed, IsOpenedAs, IsServed}
 use Rattle.dns_service.specs.Serve.{ServingEnds}
-use Rattle.dns_service.specs.Telling.{AreTold, Telling, Texts, texts_of}
+use Rattle.dns_service.specs.Telling.{AreTurnsTold, Telling, Texts, texts_of}
 use Rattle.dns_service.proofs.Served.{at_ok, configuration_refused, device_refused, served, served_for, served_somehow, serving_failed}
 use Rattle.dns_service.proofs.server.serve_all.Goals as goal
 
@@ -56,8 +56,8 @@ returns-in-Ok-open_primary g c =
             | inr (done, turned) ↦ inr (
               done,
               served_for g.D.Sectors configuration opening primary after is there closed.2.1 c.args.options before told
-                  (subst (λ (x : List SocketAddr). HasTurned c.args.options.turns (λ turns m. AreTold (telling named x) (zone_lines named m.zones) m turns before told) keeps (IsLedTo primary after)) c.deref-in-Ok-open_primary-2.ensures.value
-                  (subst (λ (x : List Labels). HasTurned c.args.options.turns (λ turns m. AreTold (telling x addresses) (zone_lines x m.zones) m turns before told) keeps (IsLedTo primary after)) names turned)),
+                  (subst (λ (x : List SocketAddr). HasTurned c.args.options.turns (λ turns m. AreTurnsTold (telling named x) (zone_lines named m.zones) m turns before told) keeps (IsLedTo primary after)) c.deref-in-Ok-open_primary-2.ensures.value
+                  (subst (λ (x : List Labels). HasTurned c.args.options.turns (λ turns m. AreTurnsTold (telling x addresses) (zone_lines x m.zones) m turns before told) keeps (IsLedTo primary after)) names turned)),
             )
           ]),
     )

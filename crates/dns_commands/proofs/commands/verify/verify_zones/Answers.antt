@@ -6,7 +6,7 @@ use Rattle.dns_configuration.specs.declared.configuration.ZoneSettings.{ZoneSett
 use Rattle.dns_configuration.proofs.Called.{called_on, nothing_called}
 use Rattle.dns_devices.proofs.Told.{failed_as}
 use Rattle.dns_commands.specs.Frame.{run_end}
-use Rattle.dns_commands.specs.Verify.{IsFinding, IsToldAs, VerifyingEnds}
+use Rattle.dns_commands.specs.Verify.{IsFinding, IsFindingTold, VerifyingEnds}
 use Rattle.dns_commands.proofs.Verified.{all_told, one_more, stopped_at}
 use Rattle.dns_commands.proofs.commands.verify.verify_zones.Goals as goal
 
@@ -24,8 +24,8 @@ loop-own-preserved g c =
     let explain = c.args.run.now.explain in
     let one = c.in_ok-status.ensures.told in
     let is = subst (λ (z : ZoneSettings). IsFinding g.D.Sectors c.args.every_sector one.0 z one.2.0) c.own-item.is one.2.1 in
-    let told = subst (λ (b : Bool). IsToldAs (get_or c.args.settings.now n own) one.2.0 (run_end one.0 b (g.W.Write.contents c.loop-own.run.out) (g.W.Write.contents c.verify_one.new.run.out) (g.E.Write.contents c.loop-own.run.err) (g.E.Write.contents c.verify_one.new.run.err) c.in_ok-status.status)) c.loop-own.invariant.explain
-    (subst (λ (z : ZoneSettings). IsToldAs z one.2.0 (run_end one.0 c.loop-own.run.explain (g.W.Write.contents c.loop-own.run.out) (g.W.Write.contents c.verify_one.new.run.out) (g.E.Write.contents c.loop-own.run.err) (g.E.Write.contents c.verify_one.new.run.err) c.in_ok-status.status)) c.own-item.is one.2.2) in
+    let told = subst (λ (b : Bool). IsFindingTold (get_or c.args.settings.now n own) one.2.0 (run_end one.0 b (g.W.Write.contents c.loop-own.run.out) (g.W.Write.contents c.verify_one.new.run.out) (g.E.Write.contents c.loop-own.run.err) (g.E.Write.contents c.verify_one.new.run.err) c.in_ok-status.status)) c.loop-own.invariant.explain
+    (subst (λ (z : ZoneSettings). IsFindingTold z one.2.0 (run_end one.0 c.loop-own.run.explain (g.W.Write.contents c.loop-own.run.out) (g.W.Write.contents c.verify_one.new.run.out) (g.E.Write.contents c.loop-own.run.err) (g.E.Write.contents c.verify_one.new.run.err) c.in_ok-status.status)) c.own-item.is one.2.2) in
     let more = one_more g.D.Sectors c.args.every_sector before.0 one.0 c.args.settings.now n own before.2.0 one.2.0 explain _ _ _ _ _ _ c.loop-own.worst c.in_ok-status.status (omega arith) before.2.1 before.2.2 before.2.3 before.2.4 is told in
     let largest : c.max-worst.result ≡ max c.loop-own.worst c.in_ok-status.status = grind (arith, nat_tests, common_steps, c.max-worst.ensures) in
     record {
