@@ -14,7 +14,7 @@ use Rattle.dns_lookup.specs.Lookup.{Found}
 use Rattle.dns_answer.specs.Sections.{Shown, from_zone, addresses_for, unseen, records_of, answer_of, authority_of}
 use Rattle.dns_answer.specs.Added.{AddsUnseen, AreReplySections}
 use Rattle.dns_answer.specs.Known.{stood}
-use Rattle.dns_answer.specs.declared.additional.Sections.{Sections}
+use Rattle.dns_answer.specs.declared.sections.Sections.{Sections}
 
 abbrev pub chosen : Bool → List Record → List Record → List Record
 chosen true a b = a

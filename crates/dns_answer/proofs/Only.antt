@@ -12,7 +12,7 @@ use Rattle.dns_lookup.specs.RepresentedLaws.{outcome_of}
 use Rattle.dns_lookup.specs.declared.outcome.Kind.{Kind}
 use Rattle.dns_lookup.specs.declared.outcome.Kind.TheVariants as kinds
 use Rattle.std.specs.List.{flat_map}
-use Rattle.dns_answer.specs.Added.{IsAll, IsAllAuthority}
+use Rattle.dns_answer.specs.Short.{AreSectionsOf}
 use Rattle.dns_answer.specs.Sections.{Shown, from_zone, as_owner, records_of, answers_of, answer_of, authority_at, additional_of, addresses_for, negative_soa, unseen}
 use Rattle.dns_answer.proofs.Shown.{answers_at, authority_by, negative_authority, no_servers}
 
@@ -28,7 +28,7 @@ no_authority z name t (Answers n) h = refl
 no_authority z name t (NoData n) h = absurd (h refl)
 no_authority z name t NameError h = absurd (h refl)
 
-pub only_all : (t : ℕ) (f : Found) (stored r : Record) → answers_of t f ≡ from_zone f.zone (as_owner f.name (stored ∷ [])) → is_some (host_of stored) ≡ false → r ≡ record stored { owner = f.name } → IsAll t (f ∷ []) r
+pub only_all : (t : ℕ) (f : Found) (stored r : Record) → answers_of t f ≡ from_zone f.zone (as_owner f.name (stored ∷ [])) → is_some (host_of stored) ≡ false → r ≡ record stored { owner = f.name } → AreSectionsOf t (f ∷ []) (r ∷ []) [] []
 only_all t f stored r is none same =
     let shown : Shown = record { zone = f.zone; shown = record stored { owner = f.name } } in
     let answer : answer_of t (f ∷ []) ≡ shown ∷ [] = append-nil (answers_of t f) ∙ is in
@@ -36,9 +36,9 @@ only_all t f stored r is none same =
     let authority : authority_at f ≡ [] = no_authority f.zone f.name t f.outcome some in
     let alone : addresses_for shown ≡ [] = ap (λ (o : Option Labels). elim o [ None ↦ [] | Some host ↦ rrset f.zone.records host type_a ++ rrset f.zone.records host type_aaaa ]) (hostless (host_of stored) none) in
     record {
-      answer = ap records_of answer ∙ ap (λ x. x ∷ []) (sym same);
-      authority = ap records_of authority;
-      additional = ap additional_of (ap (λ a. a ++ authority_at f) answer ∙ ap (λ a. (shown ∷ []) ++ a) authority)
+      answers = ap records_of answer ∙ ap (λ x. x ∷ []) (sym same);
+      authorities = ap records_of authority;
+      additionals = ap additional_of (ap (λ a. a ++ authority_at f) answer ∙ ap (λ a. (shown ∷ []) ++ a) authority)
           ∙ ap (λ (xs : List Record). unseen (records_of (shown ∷ [])) (xs ++ [])) alone;
     }
 
@@ -50,12 +50,12 @@ no_answer z name t kinds.Answers at a b = absurd (b refl)
 no_answer z name t kinds.NoData at a b = refl
 no_answer z name t kinds.NameError at a b = refl
 
-pub only_negative : (t : ℕ) (f : Found) (kind : Kind) (at : Labels) (r : Record) → f.outcome ≡ outcome_of kind at → (kind ≡ kinds.Referral → ⊥) → (kind ≡ kinds.Alias → ⊥) → (kind ≡ kinds.Answers → ⊥) → negative_soa f.zone ≡ r ∷ [] → IsAllAuthority t (f ∷ []) r
+pub only_negative : (t : ℕ) (f : Found) (kind : Kind) (at : Labels) (r : Record) → f.outcome ≡ outcome_of kind at → (kind ≡ kinds.Referral → ⊥) → (kind ≡ kinds.Alias → ⊥) → (kind ≡ kinds.Answers → ⊥) → negative_soa f.zone ≡ r ∷ [] → AreSectionsOf t (f ∷ []) [] (r ∷ []) []
 only_negative t f kind at r is a b c soa =
     let answer : answer_of t (f ∷ []) ≡ [] = append-nil (answers_of t f) ∙ ap (answers_at f.zone f.name t) is ∙ no_answer f.zone f.name t kind at b c in
     let servers : flat_map addresses_for (authority_at f) ≡ [] = ap (λ (o : Outcome). flat_map addresses_for (authority_by f.zone o)) is ∙ no_servers f.zone at kind a in
     record {
-      answer = ap records_of answer;
-      authority = ap (λ (o : Outcome). records_of (authority_by f.zone o)) is ∙ negative_authority f.zone at kind a b c ∙ soa;
-      additional = ap (λ (xs : List Shown). additional_of (xs ++ authority_at f)) answer ∙ ap (unseen (records_of (authority_at f))) servers;
+      answers = ap records_of answer;
+      authorities = ap (λ (o : Outcome). records_of (authority_by f.zone o)) is ∙ negative_authority f.zone at kind a b c ∙ soa;
+      additionals = ap (λ (xs : List Shown). additional_of (xs ++ authority_at f)) answer ∙ ap (unseen (records_of (authority_at f))) servers;
     }

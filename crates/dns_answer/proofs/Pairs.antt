@@ -16,7 +16,7 @@ use Rattle.dns_lookup.specs.Represented.{RepresentAll}
 use Rattle.dns_lookup.specs.RepresentedLaws.{outcome_of}
 use Rattle.dns_lookup.specs.declared.chain.Found.{Found as Represented}
 use Rattle.dns_lookup.specs.declared.outcome.Kind.TheVariants as kinds
-use Rattle.dns_answer.specs.WithAddress.{AreSectionsOf}
+use Rattle.dns_answer.specs.Short.{AreSectionsOf}
 use Rattle.dns_answer.specs.Known.{is_address}
 use Rattle.dns_answer.specs.Sections.{Shown, from_zone, as_owner, records_of, answers_of, answer_of, authority_at, authority_of, additional_of, addresses_for, unseen}
 use Rattle.dns_answer.proofs.Adding.{chosen, opened, at_host, no_host, shown_in}

@@ -6,6 +6,9 @@ use Rattle.dns_zone.specs.Zone.{Zone}
 use Rattle.dns_lookup.specs.Lookup.{Found, chain, next_name, outcome, resolve, zone_of}
 use Rattle.dns_wire.specs.Message.{Message, Question}
 use Rattle.dns_wire.specs.Text.{Reply}
+use Rattle.dns_wire.specs.Building.{HasNoRecord}
+use Rattle.dns_answer.specs.Short.{with_lent}
+use Rattle.dns_answer.specs.declared.short.LentSections.{LentSections}
 use Rattle.dns_records.specs.Record.{Record}
 use Rattle.dns_request.specs.Codes.{rcode_nxdomain, rcode_refused}
 use Rattle.dns_answer.specs.Sections.{additional_of, answer_of, authority_of, is_authoritative, is_name_error, records_of}
@@ -42,6 +45,10 @@ refused zones octets m q e = ap (λ (b : Bool). if b then with_question octets m
 
 pub answered-is : (zones : List Zone) (octets : List ℕ) (m : Message) (q : Question) → (length (resolve zones q.name q.qtype) ≡ 0 → ⊥) → reply_for octets m q (resolve zones q.name q.qtype) ≡ answered zones octets m q
 answered-is zones octets m q some = ap (λ (b : Bool). if b then with_question octets m q rcode_refused else reply_for octets m q (resolve zones q.name q.qtype)) (sym (inside zones q.name q.qtype some))
+
+-- a reply with no record, lent none
+pub bare : (r : Reply) (lent : LentSections) → HasNoRecord r → lent.answer.now ≡ [] → lent.authority.now ≡ [] → lent.additional.now ≡ [] → with_lent r r.aa lent ≡ r
+bare r lent none answer authority additional = λ i. record r { answer = (answer ∙ sym none.answer) i; authority = (authority ∙ sym none.authority) i; additional = (additional ∙ sym none.additional) i }
 
 -- the reply to what was found, of a reply with the question alone
 module _ (octets : List ℕ) (m : Message) (q : Question) (fs : List Found) (b : Reply) (rcode : ℕ) (aa : Bool) (bare : b ≡ with_question octets m q rcode) (code : rcode ≡ (if is_name_error fs then rcode_nxdomain else 0)) (authority : aa ≡ is_authoritative fs) where

@@ -17,7 +17,7 @@ use Rattle.dns_lookup.specs.Lookup.{Found}
 use Rattle.dns_answer.specs.Sections.{Shown, additional_of, addresses_for, answer_of, authority_of, from_zone, records_of, unseen}
 use Rattle.dns_answer.specs.Added.{AddsUnseen, AddsUpTo, AreSectionsUpTo, record_count}
 use Rattle.dns_answer.specs.Known.{all_stand, is_address, none_stands, stood, AreHosts, AreKnown, AreOwners, HasNoAddressOf}
-use Rattle.dns_answer.specs.declared.additional.Sections.{Sections}
+use Rattle.dns_answer.specs.declared.sections.Sections.{Sections}
 use Rattle.dns_answer.proofs.Adding.{adds_none, adds_then, chosen, gathered, moved, no_host, opened, unseen_append}
 
 -- no record goes

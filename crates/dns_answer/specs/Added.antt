@@ -1,10 +1,10 @@
 -- The sections of a reply in the code.
-use Rattle.std.specs.Prelude.{◌≡◌, ◌⊎◌, ℕ, ◌+◌, ◌<◌, ◌≤◌, List, [], ◌∷◌, ◌++◌, length}
+use Rattle.std.specs.Prelude.{◌≡◌, ◌⊎◌, ℕ, ◌+◌, ◌<◌, ◌≤◌, List, [], ◌++◌, length}
 use Rattle.dns_wire.specs.Text.{Reply}
 use Rattle.dns_records.specs.Record.{Record}
 use Rattle.dns_lookup.specs.Lookup.{Found}
 use Rattle.dns_answer.specs.Sections.{unseen, records_of, answer_of, authority_of, additional_of}
-use Rattle.dns_answer.specs.declared.additional.Sections.{Sections}
+use Rattle.dns_answer.specs.declared.sections.Sections.{Sections}
 
 -- Of some records, those that were nowhere in the reply are appended to its additional section, each once.
 pub record AddsUnseen (before after : Sections) (records : List Record) : Type 0 where
@@ -46,18 +46,6 @@ pub record AreSectionsUpTo (most t : ℕ) (found : List Found) (s : Sections) : 
   pub authority : s.authority.items ≡ records_of (authority_of found)
   pub whole : record_count s ≤ most → AreReplySections t found s
   pub more : most < record_count s → most < reply_count t found
-
--- One record is all that the sections of that reply have.
-pub record IsAll (t : ℕ) (found : List Found) (r : Record) : Type 0 where
-  pub answer : records_of (answer_of t found) ≡ r ∷ []
-  pub authority : records_of (authority_of found) ≡ []
-  pub additional : additional_of (answer_of t found ++ authority_of found) ≡ []
-
--- One record of the authority section is all that they have.
-pub record IsAllAuthority (t : ℕ) (found : List Found) (r : Record) : Type 0 where
-  pub answer : records_of (answer_of t found) ≡ []
-  pub authority : records_of (authority_of found) ≡ r ∷ []
-  pub additional : additional_of (answer_of t found ++ authority_of found) ≡ []
 
 -- The reply is another without its additional section, or without any record.
 abbrev pub IsWithoutAdditional : Reply → Reply → Type 0

@@ -1,9 +1,25 @@
--- A question as the code hands it on, and the question that is stated.
+-- A question as the code hands it on, the question that is stated, and the reply to it.
 use Rattle.std.specs.Prelude.{◌≡◌, ℕ, List}
-use Rattle.dns_wire.specs.Message.{Question}
+use Rattle.dns_zone.specs.Zone.{Zone}
+use Rattle.dns_lookup.specs.Lookup as stated
+use Rattle.dns_lookup.specs.Represented.{RepresentAll}
+use Rattle.dns_lookup.specs.Lent.{AllLend}
+use Rattle.dns_lookup.specs.declared.chain.Found.{Found}
+use Rattle.dns_wire.specs.Message.{Question, Received}
 use Rattle.dns_wire.specs.declared.reply.EchoedQuestion.{EchoedQuestion}
 use Rattle.dns_wire.specs.Echo.{echo_of}
+use Rattle.dns_request.specs.declared.request.Transport.{Transport}
+use Rattle.dns_answer.specs.Answer.{fitted, reply_for}
 
 pub record Echoes (message : List ℕ) (q : Question) (echo : EchoedQuestion) : Type 0 where
   pub octets_as : echo.octets.now ≡ (echo_of message q).octets
   pub name_as : echo.name ≡ q.name
+
+-- The octets are the reply to the question of a message that finds these in the zones.
+abbrev pub AreReplyTo : Received → EchoedQuestion → List Zone → List Found → Transport → List ℕ → Type 0
+AreReplyTo m echo zones found transport octets =
+    (q : Question) (fs : List stated.Found)
+    → Echoes m.octets q echo
+    → RepresentAll zones fs found
+    → AllLend zones q.qtype found
+    → octets ≡ fitted transport (reply_for m.octets m.message q fs)

@@ -7,7 +7,7 @@ use Rattle.dns_records.specs.Record.{Record}
 use Rattle.dns_zone.specs.Records.{rrset, same}
 use Rattle.dns_zone.specs.Zone.{Zone}
 use Rattle.dns_answer.specs.Added.{record_count}
-use Rattle.dns_answer.specs.declared.additional.Sections.{Sections}
+use Rattle.dns_answer.specs.declared.sections.Sections.{Sections}
 
 -- Each of the records is among those.
 abbrev pub all_stand : List Record → List Record → Bool

@@ -1,5 +1,5 @@
 //! The reply to the one question of a query.
-ghost use Rattle.std.specs.Prelude.{◌≡◌, ℕ, ◌<◌, [], ◌∷◌, List, length, IfOk};
+ghost use Rattle.std.specs.Prelude.{◌≡◌, ◌<◌, List, length, IfOk};
 ghost use Rattle.dns_wire.specs.Message.{Question};
 ghost use Rattle.dns_wire.specs.Codes.{number_of_rcode};
 ghost use Rattle.dns_wire.specs.Reply.{stated};
@@ -7,23 +7,23 @@ ghost use Rattle.dns_wire.specs.Text.{question_octets};
 ghost use Rattle.dns_wire.specs.Building.{HasNoRecord};
 ghost use Rattle.dns_lookup.specs.Lookup.{Found as Stated};
 ghost use Rattle.dns_lookup.specs.Represented.{RepresentAll};
-ghost use Rattle.dns_lookup.specs.Lent.{AllLend};
-ghost use Rattle.dns_answer.specs.Answer.{with_question, with_sections, answered, fitted, reply_for};
-ghost use Rattle.dns_answer.specs.Echoes.{Echoes};
+ghost use Rattle.dns_answer.specs.Answer.{with_question, with_sections, answered, fitted};
+ghost use Rattle.dns_answer.specs.Echoes.{Echoes, AreReplyTo};
+ghost use Rattle.dns_answer.specs.Found.{IfFound};
+ghost use Rattle.dns_answer.specs.Short.{IsShortOf, with_lent};
 
-use crate::additional::Sections;
 use crate::codes::{is_authoritative, rcode_of};
 use crate::fit::{fit, fit_first_sections, fit_question, most_records};
-use crate::sections::{answer_count, answers_alone, only_record, only_soa, server_count};
-use crate::with_address::{Pair, pair_of};
+use crate::found_sections::{answer_count, server_count};
+use crate::sections::Sections;
+use crate::short::{LentSections, Short, only_record, short_reply};
 use dns_lookup::{Found, resolve};
 use dns_memory::Heap;
 use dns_names::NameRef;
 use dns_request::{RequestMessage, Transport};
-use dns_wire::{EchoedQuestion, Message, Opcode, Rcode, Reply, ReplyRecord};
+use dns_wire::{EchoedQuestion, Message, Opcode, Rcode, Reply};
 use dns_zone::{Zone, ZoneIndex};
 use std::alloc::AllocError;
-use std::slice;
 
 /// A question as it goes out again: its octets as they came, and its name.
 fn echoed<'a>(octets: &'a [u8], name: NameRef<'a>) -> EchoedQuestion<'a>
@@ -33,23 +33,23 @@ fn echoed<'a>(octets: &'a [u8], name: NameRef<'a>) -> EchoedQuestion<'a>
     EchoedQuestion { octets, name }
 }
 
-/// A reply with the question and an answer section.
+/// A reply with the question and the records of its sections.
 fn reply_with_question<'s, 'a>(
     message: &Message<'_>,
     question: EchoedQuestion<'a>,
     aa: bool,
     rcode: Rcode,
-    answer: &'s [ReplyRecord<'a>],
+    sections: LentSections<'s, 'a>,
 ) -> Reply<'s, 'a>
     ensures stated { (q : Question)
         → Echoes message.now.octets q question.entry
         → stated result
-        ≡ record (with_question message.now.octets message.now.message q
-        (number_of_rcode rcode)) { aa = aa; answer = answer.now } }
+        ≡ with_lent (with_question message.now.octets message.now.message q (number_of_rcode rcode)) aa
+        sections.entry }
     ensures question { question_octets (stated result) ≡ question.entry.octets.now }
-    ensures answer { result.answer.now ≡ answer.now }
-    ensures authority { result.authority.now ≡ [] }
-    ensures additional { result.additional.now ≡ [] }
+    ensures answer { result.answer.now ≡ sections.entry.answer.now }
+    ensures authority { result.authority.now ≡ sections.entry.authority.now }
+    ensures additional { result.additional.now ≡ sections.entry.additional.now }
 {
     Reply {
         id: message.id(),
@@ -59,9 +59,9 @@ fn reply_with_question<'s, 'a>(
         rd: message.is_recursion_desired(),
         rcode,
         question: Some(question),
-        answer,
-        authority: &[],
-        additional: &[],
+        answer: sections.answer,
+        authority: sections.authority,
+        additional: sections.additional,
     }
 }
 
@@ -78,10 +78,8 @@ fn reply_of_all_sections<'a, I: ZoneIndex>(
     requires found { (fs : List Stated) × RepresentAll zones.now fs found.now }
     requires bare { HasNoRecord (stated reply) }
     ensures { IfOk result
-        (λ octets. (t : ℕ) (fs : List Stated)
-        → RepresentAll zones.now fs found.now
-        → AllLend zones.now t found.now
-        → octets.items ≡ fitted transport (with_sections (stated reply.entry) t fs)) }
+        (λ octets. IfFound zones.now found.now
+        (λ t fs. octets.items ≡ fitted transport (with_sections (stated reply.entry) t fs))) }
 {
     let most = most_records(transport);
     if answer_count(found) > most as usize || server_count(found) > most as usize {
@@ -111,106 +109,58 @@ fn reply_of_all_sections<'a, I: ZoneIndex>(
     fit(alloc, &mut whole, transport)
 }
 
-/// The reply to what a question finds, which has its question already: a record of each of several names, or
-/// all sections.
-fn reply_of_names<'a, I: ZoneIndex>(
+/// The reply to what a question finds, of which the shortest form is given.
+#[inline(always)]
+fn reply_of_short<'a, I: ZoneIndex>(
     alloc: Heap,
     zones: &'a [Zone<I>],
-    reply: Reply<'_, 'a>,
+    message: &Message<'_>,
+    question: EchoedQuestion<'a>,
     transport: Transport,
     found: &[Found<'a>],
+    short: &Short<'a>,
 ) -> Result<Vec<u8, Heap>, AllocError>
-    requires question { length (question_octets (stated reply)) < 65524 }
+    requires question { length question.octets.now < 65524 }
     requires found { (fs : List Stated) × RepresentAll zones.now fs found.now }
-    requires bare { HasNoRecord (stated reply) }
+    requires short { IfFound zones.now found.now (λ t fs. IsShortOf t fs short.now) }
     ensures { IfOk result
-        (λ octets. (t : ℕ) (fs : List Stated)
-        → RepresentAll zones.now fs found.now
-        → AllLend zones.now t found.now
-        → octets.items ≡ fitted transport (with_sections (stated reply.entry) t fs)) }
+        (λ octets. AreReplyTo message.now question.entry zones.now found.now transport octets.items) }
 {
-    if found.len() < 2 {
-        return reply_of_all_sections(alloc, zones, reply, transport, found);
-    }
-    let Some(alone) = answers_alone(alloc, found)? else {
-        return reply_of_all_sections(alloc, zones, reply, transport, found);
-    };
-    let mut whole = Reply {
-        answer: alone.as_slice(),
-        ..reply
-    };
-    fit(alloc, &mut whole, transport)
-}
-
-/// The reply to what a question finds, which has its question already: a record and the address of its host,
-/// which take no memory but for their octets, or all sections.
-fn reply_with_host<'a, I: ZoneIndex>(
-    alloc: Heap,
-    zones: &'a [Zone<I>],
-    reply: Reply<'_, 'a>,
-    transport: Transport,
-    found: &[Found<'a>],
-) -> Result<Vec<u8, Heap>, AllocError>
-    requires question { length (question_octets (stated reply)) < 65524 }
-    requires found { (fs : List Stated) × RepresentAll zones.now fs found.now }
-    requires bare { HasNoRecord (stated reply) }
-    ensures { IfOk result
-        (λ octets. (t : ℕ) (fs : List Stated)
-        → RepresentAll zones.now fs found.now
-        → AllLend zones.now t found.now
-        → octets.items ≡ fitted transport (with_sections (stated reply.entry) t fs)) }
-{
-    let Some(pair) = pair_of(zones, found) else {
-        return reply_of_names(alloc, zones, reply, transport, found);
-    };
-    match &pair {
-        Pair::Answer(one, address) => {
-            let mut reply = Reply {
-                answer: slice::from_ref(one),
-                additional: slice::from_ref(address),
-                ..reply
-            };
+    let aa = is_authoritative(found);
+    let rcode = rcode_of(found);
+    match short {
+        Short::All => {
+            let bare = reply_with_question(message, question, aa, rcode, LentSections::none());
+            reply_of_all_sections(alloc, zones, bare, transport, found)
+        }
+        _ => {
+            let sections = short.sections();
+            let mut reply = reply_with_question(message, question, aa, rcode, sections);
             fit(alloc, &mut reply, transport)
         }
-        Pair::Server(one, address) => {
-            let mut referral = Reply {
-                authority: slice::from_ref(one),
-                additional: slice::from_ref(address),
-                ..reply
-            };
-            fit(alloc, &mut referral, transport)
-        }
     }
 }
 
-/// The reply to what a question finds, which has its question already: one SOA alone, which takes no memory
-/// but for its octets, or all sections.
+/// The reply to what a question finds, which is no single record. It is compiled apart, so that other queries
+/// don't pay for it.
 #[inline(never)]
-fn reply_of_sections<'a, I: ZoneIndex>(
+fn reply_of_more<'a, I: ZoneIndex>(
     alloc: Heap,
     zones: &'a [Zone<I>],
-    reply: Reply<'_, 'a>,
+    message: &Message<'_>,
+    question: EchoedQuestion<'a>,
     transport: Transport,
     found: &[Found<'a>],
 ) -> Result<Vec<u8, Heap>, AllocError>
-    requires question { length (question_octets (stated reply)) < 65524 }
+    requires question { length question.octets.now < 65524 }
     requires found { (fs : List Stated) × RepresentAll zones.now fs found.now }
-    requires bare { HasNoRecord (stated reply) }
     ensures { IfOk result
-        (λ octets. (t : ℕ) (fs : List Stated)
-        → RepresentAll zones.now fs found.now
-        → AllLend zones.now t found.now
-        → octets.items ≡ fitted transport (with_sections (stated reply.entry) t fs)) }
+        (λ octets. AreReplyTo message.now question.entry zones.now found.now transport octets.items) }
 {
-    match &only_soa(zones, found) {
-        Some(one) => {
-            let mut negative = Reply {
-                authority: slice::from_ref(one),
-                ..reply
-            };
-            fit(alloc, &mut negative, transport)
-        }
-        None => reply_with_host(alloc, zones, reply, transport, found),
+    let short = short_reply(alloc, zones, found);
+    match &short {
+        Ok(short) => reply_of_short(alloc, zones, message, question, transport, found, short),
+        Err(AllocError) => Err(AllocError),
     }
 }
 
@@ -228,24 +178,14 @@ fn reply_to<'a, I: ZoneIndex>(
     requires question { length question.octets.now < 65524 }
     requires found { (fs : List Stated) × RepresentAll zones.now fs found.now }
     ensures { IfOk result
-        (λ octets. (q : Question) (fs : List Stated)
-        → Echoes message.now.octets q question.entry
-        → RepresentAll zones.now fs found.now
-        → AllLend zones.now q.qtype found.now
-        → octets.items ≡ fitted transport (reply_for message.now.octets message.now.message q fs)) }
+        (λ octets. AreReplyTo message.now question.entry zones.now found.now transport octets.items) }
 {
-    let aa = is_authoritative(found);
-    let rcode = rcode_of(found);
-    match &only_record(found) {
+    match only_record(found) {
         Some(one) => {
-            let answer = slice::from_ref(one);
-            let mut reply = reply_with_question(message, question, aa, rcode, answer);
-            fit(alloc, &mut reply, transport)
+            let short = Short::One(one);
+            reply_of_short(alloc, zones, message, question, transport, found, &short)
         }
-        None => {
-            let bare = reply_with_question(message, question, aa, rcode, &[]);
-            reply_of_sections(alloc, zones, bare, transport, found)
-        }
+        None => reply_of_more(alloc, zones, message, question, transport, found),
     }
 }
 
@@ -269,7 +209,8 @@ fn answer<'a, I: ZoneIndex>(
     let searched = resolve(alloc, zones, question.name.reborrow(), qtype)?;
     let found = searched.as_slice();
     if found.is_empty() {
-        let mut reply = reply_with_question(message, question, false, Rcode::Refused, &[]);
+        let none = LentSections::none();
+        let mut reply = reply_with_question(message, question, false, Rcode::Refused, none);
         return fit(alloc, &mut reply, transport);
     }
     reply_to(alloc, zones, message, question, transport, found)
@@ -333,6 +274,7 @@ pub fn refuse(
     let name = query.question.name().to_name(alloc)?;
     let octets = query.message.question_octets();
     let question = echoed(octets, name.lend());
-    let mut reply = reply_with_question(&query.message, question, false, rcode, &[]);
+    let none = LentSections::none();
+    let mut reply = reply_with_question(&query.message, question, false, rcode, none);
     fit(alloc, &mut reply, transport)
 }

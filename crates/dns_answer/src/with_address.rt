@@ -1,16 +1,16 @@
 //! Replies of one record and the one address of its host, which take no memory but for their octets: most
 //! referrals, and most replies for an MX.
-ghost use Rattle.std.specs.Prelude.{◌≡◌, ℕ, true, [], ◌∷◌, ◌++◌, List, IfSome};
+ghost use Rattle.std.specs.Prelude.{◌≡◌, true, [], ◌∷◌, ◌++◌, List, IfSome};
 ghost use Rattle.dns_records.specs.Types.{type_a, type_aaaa};
 ghost use Rattle.dns_zone.specs.Records.{rrset};
 ghost use Rattle.dns_lookup.specs.Lookup.{Found as Stated};
 ghost use Rattle.dns_lookup.specs.Represented.{RepresentAll};
-ghost use Rattle.dns_lookup.specs.Lent.{AllLend};
+ghost use Rattle.dns_answer.specs.Found.{IfFound};
 ghost use Rattle.dns_answer.specs.Known.{is_address};
-ghost use Rattle.dns_answer.specs.WithAddress.{AreThePair};
+ghost use Rattle.dns_answer.specs.Short.{AreThePair};
 
-use crate::additional::is_address;
-use crate::sections::searched;
+use crate::found_sections::searched;
+use crate::shown_records::is_address;
 use dns_lookup::{Found, Kind};
 use dns_names::NameRef;
 use dns_wire::ReplyRecord;
@@ -49,10 +49,7 @@ pub(crate) fn pair_of<'a, I: ZoneIndex>(
 ) -> Option<Pair<'a>>
     requires { (fs : List Stated) × RepresentAll zones.now fs found.now }
     ensures { IfSome result
-        (λ two. (t : ℕ) (fs : List Stated)
-        → RepresentAll zones.now fs found.now
-        → AllLend zones.now t found.now
-        → AreThePair t fs two) }
+        (λ two. IfFound zones.now found.now (λ t fs. AreThePair t fs two)) }
 {
     let [one] = found else {
         return None;

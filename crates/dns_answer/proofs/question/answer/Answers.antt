@@ -1,4 +1,4 @@
-use Rattle.std.proofs.Common.{◌≡◌, ℕ, true, false, List, length, sym, ap, subst, ◌∙◌, arith}
+use Rattle.std.proofs.Common.{◌≡◌, ℕ, true, false, List, length, refl, sym, ap, subst, ◌∙◌, arith}
 use Rattle.std.specs.Prelude.{◌==◌}
 use Rattle.std.proofs.lemmas.Bool.Decides.{nat_tests}
 use Rattle.std.proofs.lemmas.Result.{IfOk-weaker}
@@ -8,8 +8,9 @@ use Rattle.dns_lookup.specs.Represented.{RepresentAll}
 use Rattle.dns_lookup.specs.RepresentedLaws.{represented_length}
 use Rattle.dns_lookup.specs.Lent.{AllLend}
 use Rattle.dns_lookup.specs.declared.chain.Found.{Found as Represented}
-use Rattle.dns_answer.specs.Answer.{fitted, reply_for}
-use Rattle.dns_answer.proofs.Replies.{answered-is, refused}
+use Rattle.dns_answer.specs.Answer.{fitted, reply_for, with_question}
+use Rattle.dns_request.specs.Codes.{rcode_refused}
+use Rattle.dns_answer.proofs.Replies.{answered-is, bare, refused}
 use Rattle.dns_answer.proofs.question.answer.Goals as goal
 
 pub returns-then-is_empty : goal.returns-then-is_empty
@@ -22,7 +23,7 @@ returns-then-is_empty g c = IfOk-weaker c.fit.result _ _ (λ out e q echoes type
     let are = subst (λ (ones : List Represented). RepresentAll zones fs ones) (sym c.as_slice-found.ensures) c.in_ok-searched.ensures.represents in
     let empty : length found ≡ 0 = grind (arith, nat_tests, c.if-is_empty.ensures) in
     let none : length (resolve zones q.name q.qtype) ≡ 0 = ap length (sym same) ∙ represented_length zones fs found are ∙ empty in
-    e ∙ ap (fitted c.args.transport) (c.reply_with_question-reply.ensures.stated q echoes ∙ refused zones c.args.message.now.octets c.args.message.now.message q none)) c.fit.ensures
+    e ∙ ap (fitted c.args.transport) (c.reply_with_question-reply.ensures.stated q echoes ∙ bare (with_question c.args.message.now.octets c.args.message.now.message q rcode_refused) c.none-none.result (record { answer = refl; authority = refl; additional = refl }) c.none-none.ensures.answer c.none-none.ensures.authority c.none-none.ensures.additional ∙ refused zones c.args.message.now.octets c.args.message.now.message q none)) c.fit.ensures
 
 pub returns : goal.returns
 returns g c = IfOk-weaker c.reply_to.result _ _ (λ out e q echoes typed.

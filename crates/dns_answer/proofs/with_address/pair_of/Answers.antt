@@ -9,7 +9,7 @@ use Rattle.dns_lookup.specs.Lookup.{Found as Stated}
 use Rattle.dns_lookup.specs.Lent.{AllLend, records_found}
 use Rattle.dns_lookup.specs.declared.outcome.Kind.TheVariants as kinds
 use Rattle.dns_answer.specs.Sections.{answers_of, from_zone, as_owner}
-use Rattle.dns_answer.specs.WithAddress.{AreSectionsOf}
+use Rattle.dns_answer.specs.Short.{AreSectionsOf}
 use Rattle.dns_answer.proofs.Shown.{answers_represented, answering, authority_by}
 use Rattle.dns_answer.proofs.Pairs.{zone_within, answer_pair, server_pair}
 use Rattle.dns_answer.proofs.with_address.pair_of.Goals as goal

@@ -1,0 +1,12 @@
+use Rattle.std.proofs.Common.{◌≡◌, ℕ, [], List, take}
+use Rattle.std.specs.List.{flat_map}
+use Rattle.dns_lookup.specs.Lookup.{Found as Stated}
+use Rattle.dns_zone.specs.Zone.{Zone}
+use Rattle.dns_lookup.specs.Represented.{RepresentAll}
+use Rattle.dns_lookup.specs.Lent.{AllLend}
+use Rattle.dns_answer.specs.Sections.{records_of, answer_of, authority_of, addresses_for}
+use Rattle.dns_answer.proofs.short.answers_alone.Given as goal
+
+abbrev pub invariant-loop-one : goal.invariant-loop-one
+invariant-loop-one l = (zones : List Zone) (t : ℕ) (fs : List Stated) → RepresentAll zones fs l.found → AllLend zones t l.found
+    → (l.shown.items ≡ records_of (answer_of t (take l.one-index fs))) × (flat_map addresses_for (answer_of t (take l.one-index fs)) ≡ []) × (authority_of (take l.one-index fs) ≡ [])
