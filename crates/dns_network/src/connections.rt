@@ -27,7 +27,7 @@ impl<S: Stream + Drop> Connections<S> {
         ensures { IfOk result (λ c. places_of c ≡ replicate 64 None) }
     {
         let mut places = Vec::with_capacity(alloc, PLACES)?;
-        for _place in 0..PLACES {
+        for _position in 0..PLACES {
             places.push(None)?;
         }
         Ok(Connections { places })
