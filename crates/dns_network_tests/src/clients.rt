@@ -8,7 +8,7 @@ use std::net::{Ipv4Addr, Shutdown, SocketAddr, TcpStream, UdpSocket};
 use std::time::Duration;
 
 /// How many milliseconds clients wait after they have acted.
-const SETTLING: u64 = 50;
+const SETTLING: u64 = 300;
 
 /// What clients do once, after a line of the log that begins so.
 #[derive(Clone, Copy)]
