@@ -4,7 +4,8 @@ ghost use Rattle.dns_records.specs.Types.{is_data_type};
 ghost use Rattle.dns_masterfile.specs.Left.{word_before};
 ghost use Rattle.dns_masterfile.specs.Reading.{item_in, said_by, take_owner, take_type};
 ghost use Rattle.dns_masterfile.specs.Scan.{stated_word};
-ghost use Rattle.dns_masterfile.specs.Contexts.{Faults, SaysWhole, directive_after, has_ended, stated_context};
+ghost use Rattle.dns_masterfile.specs.Contexts.{Faults, SaysWhole, directive_after, has_ended};
+ghost use Rattle.dns_masterfile.specs.Contexts.{stated_context};
 ghost use Rattle.dns_masterfile.specs.Taking.{RefusesFor, TakesValue};
 
 use crate::FileError;
@@ -97,7 +98,8 @@ impl<'a> Scanner<'a> {
         word: Word<'_>,
     ) -> Result<Said, FileError>
         ensures { MatchResult result
-            (SaysWhole (directive_after context.now (stated_word word.entry) self.old) false self.old self.new)
+            (SaysWhole (directive_after context.now (stated_word word.entry) self.old) false
+            self.old self.new)
             (Faults (directive_after context.now (stated_word word.entry) self.old) false self.old) }
     {
         if word.is_keyword(b"$ORIGIN") {

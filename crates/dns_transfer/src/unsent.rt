@@ -153,8 +153,12 @@ impl<'a, I: ZoneIndex> Model for Rest<'a, I> {
 impl<'a, I: ZoneIndex> Rest<'a, I> {
     /// The records from the position on of the answer for a zone of that SOA, those records and that history.
     pub fn at(soa: &'a Record, index: &'a I, history: &'a History, position: Place) -> Rest<'a, I>
-        ensures { result
-            ≡ record { soa = soa.now; records = I.records index.now; changes = history.now; position = position } }
+        ensures { result ≡ record {
+          soa = soa.now;
+          records = I.records index.now;
+          changes = history.now;
+          position = position;
+        } }
     {
         let from = match position {
             Place::Zone(at) => at,

@@ -9,8 +9,8 @@ ghost use Rattle.dns_wire.specs.Valid.{IsReply, message_of_reply};
 ghost use Rattle.dns_wire.specs.Text.{Reply as Stated, text, header_octets};
 ghost use Rattle.dns_names.specs.Name.{Labels};
 ghost use Rattle.dns_wire.specs.Compress.{Place, compress_name, new_places};
-ghost use Rattle.dns_wire.specs.Compressed.{Used, OccursAt, OccurBefore, IsWritten, AreThePlaces, IsCompressed};
-ghost use Rattle.dns_wire.specs.Compressed.{and_written};
+ghost use Rattle.dns_wire.specs.Compressed.{Used, OccursAt, OccurBefore, IsWritten, AreThePlaces};
+ghost use Rattle.dns_wire.specs.Compressed.{IsCompressed, and_written};
 
 use crate::compression_targets::Places;
 use crate::compressor::Compressor;

@@ -30,7 +30,8 @@ pub record IsPlaceOf (name : Labels) (records : List Record) (position : ℕ) : 
 
 -- The record at a position has an owner at the name or under it.
 abbrev pub is_owned_at : List Record → ℕ → Labels → Bool
-is_owned_at records position name = elim (slice_get records position) [ Some r ↦ under r.owner name | None ↦ false ]
+is_owned_at records position name =
+    elim (slice_get records position) [ Some r ↦ under r.owner name | None ↦ false ]
 
 -- One of the two records on either side of a position has.
 abbrev pub is_owned_beside : List Record → ℕ → Labels → Bool

@@ -75,8 +75,8 @@ pub trait ZoneIndex: Drop {
     fn len(&self) -> usize
         ensures { result ≡ length (records self.now) };
 
-    /// Successive records from position `position` on, as many as the set can lend in one piece, and none only
-    /// where none is left.
+    /// Successive records from this position on, as many as the set can lend in one piece, and none only where
+    /// none is left.
     fn run_from(&self, position: usize) -> &[Record]
         ensures run { IsRun (records self.now) position result.now }
         ensures some { result.now ≡ [] → drop position (records self.now) ≡ [] };

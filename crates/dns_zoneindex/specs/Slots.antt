@@ -22,4 +22,5 @@ pub record IsPlace (label : List ℕ) (slots : List (List Child)) (position : �
 -- The child of the label is among those of the slot at this index, if there is one.
 pub record IsFoundAt (label : List ℕ) (slots : List (List Child)) (position : ℕ) : Type 0 where
   pub there : position < length slots
-  pub found : (s : List Child) → slice_get slots position ≡ Some s → child_of label s ≡ child_of label (joined slots)
+  pub found : (s : List Child) → slice_get slots position ≡ Some s
+      → child_of label s ≡ child_of label (joined slots)

@@ -367,7 +367,8 @@ pub(crate) fn replaced(
 ) -> Result<Vec<Slot, Heap>, AllocError>
     requires { position < length slots.now }
     ensures { IfOk result
-        (λ made. made.items ≡ take position slots.now ++ (come.entry.items ++ drop (suc position) slots.now)) }
+        (λ made. made.items
+        ≡ take position slots.now ++ (come.entry.items ++ drop (suc position) slots.now)) }
 {
     let mut come = come;
     let mut made = Vec::with_capacity(alloc, sum(slots.len(), 1)?)?;
