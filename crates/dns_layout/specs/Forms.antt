@@ -80,7 +80,7 @@ root_front r = big_bytes 8 r.bank_open
     ++ (big_bytes 4 r.snapshot_room ++ (big_bytes 4 r.journal_room ++ clear_number r.is_clear ∷ [])))
 
 -- why a sector is refused as a root: another tag; or a bank above 1, a word above 1 on the other bank, or no
--- name with nothing but zeros after it
+-- name in lower case with nothing but zeros after it
 abbrev pub RootRefusedIn : Format → List ℕ → LayoutError → Type 0
 RootRefusedIn f x NotThisKind = tag x ≢ root_tag_in f
 RootRefusedIn f x BadField = (tag x ≡ root_tag_in f)

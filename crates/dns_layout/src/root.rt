@@ -103,8 +103,8 @@ impl Root {
     }
 
     /// What the sector says. `NotThisKind` where it has another tag, `BadField` where its bank or what it
-    /// says of the other bank is above 1, or its last field is not a name in plain form with nothing but
-    /// zeros after it.
+    /// says of the other bank is above 1, or its last field is not a name in plain form, in lower case, with
+    /// nothing but zeros after it.
     #[tactic(auto, unfolding(crate::specs::Sector::root_tag_in))]
     pub fn decode(format: Format, sector: &Sector) -> Result<Root, LayoutError>
         ensures says { IfOk result (SaysRootIn format sector.now) }

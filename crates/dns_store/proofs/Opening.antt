@@ -4,6 +4,7 @@ use Rattle.std.specs.Prelude.{get_or}
 use Rattle.std.proofs.lemmas.Bool.{cases_lt}
 use Rattle.std.specs.List.{AllByRecursion}
 use Rattle.dns_names.specs.Name.{Labels, IsName, IsLabel as IsLower, wire}
+use Rattle.dns_names.specs.PlainLaws.{wire_lower}
 use Rattle.dns_sectors.specs.Device.{Content}
 use Rattle.dns_layout.specs.Apex.{HasLabelLength, IsPlainApex, labels_plain}
 use Rattle.dns_layout.specs.Sector.{blank, tag, root_tag_in, digit_in, sector_at, open_count, number}
@@ -35,7 +36,7 @@ wire_is [] = refl
 wire_is (l ∷ rest) = ap (λ (xs : List ℕ). length l ∷ (l ++ xs)) (wire_is rest) ∙ ap (λ (xs : List ℕ). length l ∷ xs) (sym (append_assoc l (labels_plain rest) (0 ∷ [])))
 
 pub plain_name : (name : Labels) → IsName name → IsPlainApex (wire name)
-plain_name name is = record { name = name; labels = labels_are name is.labels; is = wire_is name; short = is.short }
+plain_name name is = record { name = name; labels = labels_are name is.labels; is = wire_is name; short = is.short; lower = wire_lower name is.labels }
 
 pub not_blank : (f : Format) (x : List ℕ) → tag x ≡ root_tag_in f → x ≡ blank → ⊥
 unfolding root_tag_in tag
