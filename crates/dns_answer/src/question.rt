@@ -25,13 +25,6 @@ use dns_wire::{EchoedQuestion, Message, Opcode, Rcode, Reply};
 use dns_zone::{Zone, ZoneIndex};
 use std::alloc::AllocError;
 
-/// What a query asks: its message, and its question as it goes out again.
-#[derive(Drop)]
-struct Asked<'m, 'a> {
-    message: &'m Message<'m>,
-    question: EchoedQuestion<'a>,
-}
-
 /// A question as it goes out again: its octets as they came, and its name.
 fn echoed<'a>(octets: &'a [u8], name: NameRef<'a>) -> EchoedQuestion<'a>
     ensures octets { result.octets.now ≡ octets.now }
@@ -42,29 +35,30 @@ fn echoed<'a>(octets: &'a [u8], name: NameRef<'a>) -> EchoedQuestion<'a>
 
 /// A reply with the question and the records of its sections.
 fn reply_with_question<'s, 'a>(
-    asked: Asked<'_, 'a>,
+    message: &Message<'_>,
+    question: EchoedQuestion<'a>,
     aa: bool,
     rcode: Rcode,
     sections: LentSections<'s, 'a>,
 ) -> Reply<'s, 'a>
     ensures stated { (q : Question)
-        → Echoes asked.entry.message.now.octets q asked.entry.question
+        → Echoes message.now.octets q question.entry
         → stated result
-        ≡ with_lent (with_question asked.entry.message.now.octets asked.entry.message.now.message q
-        (number_of_rcode rcode)) aa sections.entry }
-    ensures question { question_octets (stated result) ≡ asked.entry.question.octets.now }
+        ≡ with_lent (with_question message.now.octets message.now.message q (number_of_rcode rcode)) aa
+        sections.entry }
+    ensures question { question_octets (stated result) ≡ question.entry.octets.now }
     ensures answer { result.answer.now ≡ sections.entry.answer.now }
     ensures authority { result.authority.now ≡ sections.entry.authority.now }
     ensures additional { result.additional.now ≡ sections.entry.additional.now }
 {
     Reply {
-        id: asked.message.id(),
+        id: message.id(),
         opcode: Opcode::Query,
         aa,
         tc: false,
-        rd: asked.message.is_recursion_desired(),
+        rd: message.is_recursion_desired(),
         rcode,
-        question: Some(asked.question),
+        question: Some(question),
         answer: sections.answer,
         authority: sections.authority,
         additional: sections.additional,
@@ -120,28 +114,28 @@ fn reply_of_all_sections<'a, I: ZoneIndex>(
 fn reply_of_short<'a, I: ZoneIndex>(
     alloc: Heap,
     zones: &'a [Zone<I>],
-    asked: Asked<'_, 'a>,
+    message: &Message<'_>,
+    question: EchoedQuestion<'a>,
     transport: Transport,
     found: &[Found<'a>],
     short: &Short<'a>,
 ) -> Result<Vec<u8, Heap>, AllocError>
-    requires question { length asked.question.octets.now < 65524 }
+    requires question { length question.octets.now < 65524 }
     requires found { (fs : List Stated) × RepresentAll zones.now fs found.now }
     requires short { IfFound zones.now found.now (λ t fs. IsShortOf t fs short.now) }
     ensures { IfOk result
-        (λ octets. AreReplyTo asked.entry.message.now asked.entry.question zones.now found.now transport
-        octets.items) }
+        (λ octets. AreReplyTo message.now question.entry zones.now found.now transport octets.items) }
 {
     let aa = is_authoritative(found);
     let rcode = rcode_of(found);
     match short {
         Short::All => {
-            let bare = reply_with_question(asked, aa, rcode, LentSections::none());
+            let bare = reply_with_question(message, question, aa, rcode, LentSections::none());
             reply_of_all_sections(alloc, zones, bare, transport, found)
         }
         _ => {
             let sections = short.sections();
-            let mut reply = reply_with_question(asked, aa, rcode, sections);
+            let mut reply = reply_with_question(message, question, aa, rcode, sections);
             fit(alloc, &mut reply, transport)
         }
     }
@@ -153,19 +147,19 @@ fn reply_of_short<'a, I: ZoneIndex>(
 fn reply_of_more<'a, I: ZoneIndex>(
     alloc: Heap,
     zones: &'a [Zone<I>],
-    asked: Asked<'_, 'a>,
+    message: &Message<'_>,
+    question: EchoedQuestion<'a>,
     transport: Transport,
     found: &[Found<'a>],
 ) -> Result<Vec<u8, Heap>, AllocError>
-    requires question { length asked.question.octets.now < 65524 }
+    requires question { length question.octets.now < 65524 }
     requires found { (fs : List Stated) × RepresentAll zones.now fs found.now }
     ensures { IfOk result
-        (λ octets. AreReplyTo asked.entry.message.now asked.entry.question zones.now found.now transport
-        octets.items) }
+        (λ octets. AreReplyTo message.now question.entry zones.now found.now transport octets.items) }
 {
     let short = short_reply(alloc, zones, found);
     match &short {
-        Ok(short) => reply_of_short(alloc, zones, asked, transport, found, short),
+        Ok(short) => reply_of_short(alloc, zones, message, question, transport, found, short),
         Err(AllocError) => Err(AllocError),
     }
 }
@@ -176,22 +170,22 @@ fn reply_of_more<'a, I: ZoneIndex>(
 fn reply_to<'a, I: ZoneIndex>(
     alloc: Heap,
     zones: &'a [Zone<I>],
-    asked: Asked<'_, 'a>,
+    message: &Message<'_>,
+    question: EchoedQuestion<'a>,
     transport: Transport,
     found: &[Found<'a>],
 ) -> Result<Vec<u8, Heap>, AllocError>
-    requires question { length asked.question.octets.now < 65524 }
+    requires question { length question.octets.now < 65524 }
     requires found { (fs : List Stated) × RepresentAll zones.now fs found.now }
     ensures { IfOk result
-        (λ octets. AreReplyTo asked.entry.message.now asked.entry.question zones.now found.now transport
-        octets.items) }
+        (λ octets. AreReplyTo message.now question.entry zones.now found.now transport octets.items) }
 {
     match only_record(found) {
         Some(one) => {
             let short = Short::One(one);
-            reply_of_short(alloc, zones, asked, transport, found, &short)
+            reply_of_short(alloc, zones, message, question, transport, found, &short)
         }
-        None => reply_of_more(alloc, zones, asked, transport, found),
+        None => reply_of_more(alloc, zones, message, question, transport, found),
     }
 }
 
@@ -200,26 +194,26 @@ fn reply_to<'a, I: ZoneIndex>(
 fn answer<'a, I: ZoneIndex>(
     alloc: Heap,
     zones: &'a [Zone<I>],
-    asked: Asked<'_, 'a>,
+    message: &Message<'_>,
+    question: EchoedQuestion<'a>,
     qtype: u16,
     transport: Transport,
 ) -> Result<Vec<u8, Heap>, AllocError>
-    requires { length asked.question.octets.now < 65524 }
+    requires { length question.octets.now < 65524 }
     ensures { IfOk result
         (λ octets. (q : Question)
-        → Echoes asked.entry.message.now.octets q asked.entry.question
+        → Echoes message.now.octets q question.entry
         → qtype ≡ q.qtype
-        → octets.items ≡ fitted transport
-        (answered zones.now asked.entry.message.now.octets asked.entry.message.now.message q)) }
+        → octets.items ≡ fitted transport (answered zones.now message.now.octets message.now.message q)) }
 {
-    let searched = resolve(alloc, zones, asked.question.name.reborrow(), qtype)?;
+    let searched = resolve(alloc, zones, question.name.reborrow(), qtype)?;
     let found = searched.as_slice();
     if found.is_empty() {
         let none = LentSections::none();
-        let mut reply = reply_with_question(asked, false, Rcode::Refused, none);
+        let mut reply = reply_with_question(message, question, false, Rcode::Refused, none);
         return fit(alloc, &mut reply, transport);
     }
-    reply_to(alloc, zones, asked, transport, found)
+    reply_to(alloc, zones, message, question, transport, found)
 }
 
 /// The reply to a query whose name has capitals, which are lowered first. It is compiled apart, so that other
@@ -238,11 +232,8 @@ fn reply_in_lower_case<I: ZoneIndex>(
 {
     let name = query.question.name().to_name(alloc)?;
     let qtype = query.question.qtype();
-    let asked = Asked {
-        message: &query.message,
-        question: echoed(query.message.question_octets(), name.lend()),
-    };
-    answer(alloc, zones, asked, qtype, transport)
+    let question = echoed(query.message.question_octets(), name.lend());
+    answer(alloc, zones, &query.message, question, qtype, transport)
 }
 
 /// The reply to a query, octet for octet as it is defined, with its question: what the lookup finds, or
@@ -258,16 +249,13 @@ pub fn reply<I: ZoneIndex>(
         ≡ fitted transport
         (answered zones.now query.now.message.octets query.now.message.message query.now.question)) }
 {
-    let question_name = query.question.name();
-    let Some(name) = question_name.as_plain() else {
+    let asked = query.question.name();
+    let Some(name) = asked.as_plain() else {
         return reply_in_lower_case(alloc, zones, query, transport);
     };
     let qtype = query.question.qtype();
-    let asked = Asked {
-        message: &query.message,
-        question: echoed(query.message.question_octets(), name),
-    };
-    answer(alloc, zones, asked, qtype, transport)
+    let question = echoed(query.message.question_octets(), name);
+    answer(alloc, zones, &query.message, question, qtype, transport)
 }
 
 /// The reply to a query that is not served: its question, and the response code.
@@ -284,11 +272,9 @@ pub fn refuse(
         (number_of_rcode rcode))) }
 {
     let name = query.question.name().to_name(alloc)?;
-    let asked = Asked {
-        message: &query.message,
-        question: echoed(query.message.question_octets(), name.lend()),
-    };
+    let octets = query.message.question_octets();
+    let question = echoed(octets, name.lend());
     let none = LentSections::none();
-    let mut reply = reply_with_question(asked, false, rcode, none);
+    let mut reply = reply_with_question(&query.message, question, false, rcode, none);
     fit(alloc, &mut reply, transport)
 }

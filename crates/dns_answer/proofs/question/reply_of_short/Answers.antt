@@ -15,8 +15,8 @@ reply_of_all_sections-requires-clause-bare g c =
 
 pub returns-in-All : goal.returns-in-All
 returns-in-All g c = IfOk-weaker c.reply_of_all_sections.result _ _ (λ out e q fs echoes are holds.
-    let octets = c.args.asked.message.now.octets in
-    let m = c.args.asked.message.now.message in
+    let octets = c.args.message.now.octets in
+    let m = c.args.message.now.message in
     let zones = c.args.zones.now in
     let rcode = number_of_rcode c.rcode_of-rcode.result in
     e q.qtype fs are holds ∙ ap (fitted c.args.transport) (ap (λ (b : Reply). with_sections b q.qtype fs) (c.reply_with_question-bare.ensures.stated q echoes)
@@ -24,8 +24,8 @@ returns-in-All g c = IfOk-weaker c.reply_of_all_sections.result _ _ (λ out e q 
 
 pub returns-in_default : goal.returns-in_default
 returns-in_default g c = IfOk-weaker c.fit.result _ _ (λ out e q fs echoes are holds.
-    let octets = c.args.asked.message.now.octets in
-    let m = c.args.asked.message.now.message in
+    let octets = c.args.message.now.octets in
+    let m = c.args.message.now.message in
     let zones = c.args.zones.now in
     let rcode = number_of_rcode c.rcode_of-rcode.result in
     let lent = c.sections-sections.result in
