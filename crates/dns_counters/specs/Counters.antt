@@ -1,9 +1,10 @@
 -- What a server has done, in numbers.
-use Rattle.std.specs.Prelude.{ℕ, ◌+◌, ◌-◌, ◌^◌, ◌/◌, ◌%◌, ◌==◌, min, Bool, true, false, List, [], ◌∷◌, filter, length}
+use Rattle.std.specs.Prelude.{ℕ, ◌+◌, ◌-◌, ◌^◌, ◌/◌, ◌%◌, ◌==◌, min, Bool, true, false, List, [], ◌∷◌}
+use Rattle.std.specs.Prelude.{filter, length}
 use Rattle.std.specs.Prelude.{slice_index, slice_set, replicate, Option, Some, None, if◌then◌else◌}
 use Rattle.dns_records.specs.Types.{type_ixfr}
-use Rattle.dns_request.specs.Request.{Request, Ignored, Refused, NotServed, Query, Update, Transfer, request_of}
-use Rattle.dns_request.specs.Request.{opcode_query, opcode_update}
+use Rattle.dns_request.specs.Request.{Request, Ignored, Refused, NotServed, Query, Update, Transfer}
+use Rattle.dns_request.specs.Request.{opcode_query, opcode_update, request_of}
 use Rattle.dns_request.specs.declared.request.Transport.TheVariants.{Tcp}
 use Rattle.dns_primary.specs.declared.event.Effects.{Effects}
 use Rattle.dns_primary.specs.declared.event.HeaderTo.{HeaderTo}
@@ -56,24 +57,24 @@ abbrev pub with_octets : Counters → Option Reply → Counters
 with_octets c None = c
 with_octets c (Some reply) = with_reply c (octets_in reply.octets)
 
-abbrev pub with_answer : Counters → Event → Option Reply → Counters
-with_answer c (Pump number) message = c
-with_answer c (Datagram peer octets) message = with_octets c message
-with_answer c (Arrives number octets) message = with_octets c message
-with_answer c (Connect peer) message = with_octets c message
-with_answer c Flush message = with_octets c message
-with_answer c (Checkpoint index) message = with_octets c message
-with_answer c (Closed number) message = with_octets c message
+abbrev pub with_message_of : Counters → Event → Option Reply → Counters
+with_message_of c (Pump number) message = c
+with_message_of c (Datagram peer octets) message = with_octets c message
+with_message_of c (Arrives number octets) message = with_octets c message
+with_message_of c (Connect peer) message = with_octets c message
+with_message_of c Flush message = with_octets c message
+with_message_of c (Checkpoint index) message = with_octets c message
+with_message_of c (Closed number) message = with_octets c message
 
 -- Whether a transfer is open on the connection with a number; and on how many one is.
 abbrev pub with_open : Counters → ℕ → Bool → Counters
 with_open c number is_open = record c { sending = slice_set c.sending number is_open }
 
-abbrev pub open_count : Counters → ℕ
-open_count c = length (filter (λ is_open. is_open) c.sending)
+abbrev pub count_open : Counters → ℕ
+count_open c = length (filter (λ is_open. is_open) c.sending)
 
--- A transfer that is asked for on the connection with a number is open there. It is incremental or of the whole
--- zone (RFC 1995, RFC 5936).
+-- A transfer that is asked for on the connection with a number is open there. It is incremental or of the
+-- whole zone (RFC 1995, RFC 5936).
 abbrev pub with_kind : Counters → ℕ → Counters
 with_kind c qtype =
     if qtype == type_ixfr then record c { incremental = more c.incremental }
@@ -104,12 +105,12 @@ with_transfer_of c event None noted.OutOfMemory = c
 with_transfer_of c event None (noted.Device index) = c
 with_transfer_of c event (Some reply) noted = c
 
-abbrev pub with_transfer : Counters → Event → Effects → Counters
-with_transfer c event effects = with_transfer_of c event effects.message effects.noted
+abbrev pub with_transfer_step : Counters → Event → Effects → Counters
+with_transfer_step c event effects = with_transfer_of c event effects.message effects.noted
 
 abbrev pub with_event : Counters → Event → Effects → Counters
 with_event c event effects =
-    with_transfer (with_answer (with_headers c effects.headers.items) event effects.message) event effects
+    with_transfer_step (with_message_of (with_headers c effects.headers.items) event effects.message) event effects
 
 -- A connection that is opened, closed, silent, stalled, or refused is counted.
 abbrev pub with_note : Counters → Note → Counters
@@ -149,6 +150,6 @@ no_counts = record {
 }
 
 -- What an observer that counts has after a report, if it counts at all.
-abbrev pub counted : Bool → Counters → Report → Counters
-counted true c one = with_report c one
-counted false c one = c
+abbrev pub counted_if : Bool → Counters → Report → Counters
+counted_if true c one = with_report c one
+counted_if false c one = c

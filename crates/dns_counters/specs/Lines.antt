@@ -10,7 +10,7 @@ use Rattle.dns_primary.specs.declared.fullness.Fullness.{Fullness}
 use Rattle.dns_primary.specs.Fullness.{fullness_of}
 use Rattle.dns_primary.specs.Machine.{ZoneState, kept_of}
 use Rattle.dns_counters.specs.declared.counters.Counters.{Counters}
-use Rattle.dns_counters.specs.Counters.{open_count}
+use Rattle.dns_counters.specs.Counters.{count_open}
 
 -- Replies to queries by their codes, and those that were truncated.
 abbrev pub query_counts : Counters → List ℕ
@@ -52,7 +52,7 @@ abbrev pub transfer_counts : Counters → List ℕ
 transfer_counts c =
     codes " transfers_whole=" ++ (decimal c.whole
     ++ (codes " transfers_incremental=" ++ (decimal c.incremental
-    ++ (codes " transfers_open=" ++ decimal (open_count c)))))
+    ++ (codes " transfers_open=" ++ decimal (count_open c)))))
 
 abbrev pub connection_counts : Counters → List ℕ
 connection_counts c =

@@ -4,8 +4,8 @@ ghost use Rattle.dns_request.specs.Request.{request_of};
 ghost use Rattle.dns_request.specs.declared.request.Transport.TheVariants.{Tcp};
 ghost use Rattle.dns_primary.specs.Steps.{event_shown};
 ghost use Rattle.dns_counters.specs.Counters.{code_in, is_cut, more, more_at, no_counts, opcode_in};
-ghost use Rattle.dns_counters.specs.Counters.{open_count, with_answer, with_event, with_headers, with_note};
-ghost use Rattle.dns_counters.specs.Counters.{with_open, with_reply, with_request, with_transfer};
+ghost use Rattle.dns_counters.specs.Counters.{count_open, with_event, with_headers, with_message_of, with_note};
+ghost use Rattle.dns_counters.specs.Counters.{with_open, with_reply, with_request, with_transfer_step};
 
 use dns_network::Note;
 use dns_primary::{Effects, Event, HeaderTo, Noted, Reply};
@@ -105,7 +105,7 @@ impl Counters {
 
     /// How many transfers are open. Each keeps the version that it sends.
     pub fn open_count(&self) -> usize
-        ensures { result ≡ open_count self.now }
+        ensures { result ≡ count_open self.now }
     {
         self.sending.iter().filter(|is_open| **is_open).count()
     }
@@ -145,7 +145,7 @@ impl Counters {
 
     /// Counts the reply to an event, if there is one, unless it is a message of a transfer.
     fn count_answer(&mut self, event: Event<'_>, message: &Option<Reply>)
-        ensures { self.new ≡ with_answer self.old (event_shown event.entry) message.now }
+        ensures { self.new ≡ with_message_of self.old (event_shown event.entry) message.now }
     {
         if let Event::Pump(_) = event {
             return;
@@ -171,7 +171,7 @@ impl Counters {
 
     /// Counts the transfer that an event opened or ended, if it did.
     fn count_transfer(&mut self, event: Event<'_>, effects: &Effects)
-        ensures { self.new ≡ with_transfer self.old (event_shown event.entry) effects.now }
+        ensures { self.new ≡ with_transfer_step self.old (event_shown event.entry) effects.now }
     {
         if effects.message.is_some() | (effects.noted != Noted::Nothing) {
             return;

@@ -2,7 +2,7 @@
 ghost use Rattle.std.specs.Prelude.{◌≡◌};
 ghost use Rattle.dns_primary.specs.Steps.{event_shown};
 ghost use Rattle.dns_network.specs.Notes.{OfEvent, OfNote};
-ghost use Rattle.dns_counters.specs.Counters.{counted, no_counts};
+ghost use Rattle.dns_counters.specs.Counters.{counted_if, no_counts};
 ghost use Rattle.dns_counters.specs.declared.counters.Counters.{Counters as StatedCounters};
 
 use crate::Counters;
@@ -33,7 +33,7 @@ impl Counting {
     #[inline]
     pub fn note(&mut self, note: Note)
         ensures on { self.new.is_on ≡ self.old.is_on }
-        ensures counted { self.new.counters ≡ counted self.old.is_on self.old.counters (OfNote note) }
+        ensures counted { self.new.counters ≡ counted_if self.old.is_on self.old.counters (OfNote note) }
     {
         if self.is_on {
             self.counters.count_note(note);
@@ -45,7 +45,7 @@ impl Counting {
     pub fn observe(&mut self, event: Event<'_>, effects: &Effects)
         ensures on { self.new.is_on ≡ self.old.is_on }
         ensures counted { self.new.counters
-            ≡ counted self.old.is_on self.old.counters (OfEvent (event_shown event.entry) effects.now) }
+            ≡ counted_if self.old.is_on self.old.counters (OfEvent (event_shown event.entry) effects.now) }
     {
         if self.is_on {
             self.counters.count_event(event, effects);

@@ -11,7 +11,7 @@ use Rattle.dns_versions.specs.Each.{Each3}
 use Rattle.dns_primary.specs.declared.primary.Primary.{Primary}
 use Rattle.dns_primary.specs.Keeps.{HaveVersions, IsKept}
 use Rattle.dns_primary.specs.Machine.{Machine, ZoneState, kept_of}
-use Rattle.dns_primary.specs.Runs.{Moment, Took, last_of, machine_after}
+use Rattle.dns_primary.specs.Runs.{Moment, Took, machine_at_end, machine_after}
 use Rattle.dns_primary.specs.Step as machine
 use Rattle.dns_primary.specs.Step.{Event, base_moved}
 use Rattle.dns_primary.specs.Steps.{AtAnyMomentOf, OpensAsEvent, with_rooms}
@@ -33,7 +33,7 @@ module _ {S : Type 0} (s : store.Ghosts S) where
   front m (t ∷ first) later index c (inr (inl within)) = inr (inl within)
   front m (t ∷ first) later index c (inr (inr on)) = inr (inr (front (machine_after t) first later index c on))
 
-  behind : (m : Machine) (first later : List Moment) (index : ℕ) (c : Content) → OpensInRun s.opens (last_of m first) later index c → OpensInRun s.opens m (first ++ later) index c
+  behind : (m : Machine) (first later : List Moment) (index : ℕ) (c : Content) → OpensInRun s.opens (machine_at_end m first) later index c → OpensInRun s.opens m (first ++ later) index c
   behind m [] later index c is = is
   behind m (t ∷ first) later index c is = inr (inr (behind (machine_after t) first later index c is))
 
@@ -66,10 +66,10 @@ module _ {I S : Type 0} (s : store.Ghosts S) where
   event_from m event fails stated next index (a ∷ olds) (b ∷ news) [] at is = absurd is
 
   on_from : (m : Machine) (first later : List Moment) (index : ℕ) (olds mids news : List (ZoneVersions I S)) → AreLeftFrom s index m first olds mids
-      → AreLeftFrom s index (last_of m first) later mids news → AreLeftFrom s index m (first ++ later) olds news
+      → AreLeftFrom s index (machine_at_end m first) later mids news → AreLeftFrom s index m (first ++ later) olds news
   on_from m first later index [] [] [] h k = tt
   on_from m first later index (a ∷ olds) (b ∷ mids) (d ∷ news) h k = (
-    joined s.moment s.left_since a.store b.store d.store (OpensInRun s.opens m (first ++ later) index) (OpensInRun s.opens (last_of m first) later index)
+    joined s.moment s.left_since a.store b.store d.store (OpensInRun s.opens m (first ++ later) index) (OpensInRun s.opens (machine_at_end m first) later index)
         (weaker s.moment s.left_since a.store b.store (OpensInRun s.opens m first index) (OpensInRun s.opens m (first ++ later) index) h.0 (λ c left. front s m first later index c left)) k.0
         (λ c left. behind s m first later index c left),
     on_from m first later (suc index) olds mids news h.1 k.1,
@@ -86,7 +86,7 @@ module _ {I S : Type 0} {i : zone_index.Ghosts I} {s : store.Ghosts S} where
       rest_from s law m 0 p.zones.items p.pending.items m.zones (λ j. ap (slice_get m.zones) (let e : 0 + j ≡ j = omega arith in e)) kept.zones_are
 
   -- One run after another.
-  pub leads_on : (m : Machine) (first later : List Moment) (old mid new : Primary I S i s) → LeadsThrough old mid m first → LeadsThrough mid new (last_of m first) later → LeadsThrough old new m (first ++ later)
+  pub leads_on : (m : Machine) (first later : List Moment) (old mid new : Primary I S i s) → LeadsThrough old mid m first → LeadsThrough mid new (machine_at_end m first) later → LeadsThrough old new m (first ++ later)
   leads_on m first later old mid new h k = on_from s m first later 0 old.pending.items mid.pending.items new.pending.items h k
 
   -- One event.

@@ -15,7 +15,7 @@ use Rattle.dns_primary.specs.Flush.{Sent, all_out}
 use Rattle.dns_primary.specs.Keeps.{IsKept}
 use Rattle.dns_primary.specs.Step as machine
 use Rattle.dns_primary.specs.Step.{Event, Datagram, Connect, Arrives, Flush, Checkpoint, Pump, Closed, Step}
-use Rattle.dns_primary.specs.Runs.{Moment, Took, Run, last_of, machine_after}
+use Rattle.dns_primary.specs.Runs.{Moment, Took, Run, machine_at_end, machine_after}
 use Rattle.dns_network.specs.declared.network.Network.{Ghosts}
 use Rattle.dns_network.specs.declared.network.Note.{Note}
 use Rattle.dns_network.specs.declared.network.Note.TheVariants as note
@@ -28,11 +28,11 @@ use Rattle.dns_network.specs.Left.{LeadsThrough, RestLaw}
 use Rattle.dns_network.specs.Runs.{IsRunOf, IsStepOf, Told, closed_for, closing, told_by, told_in, told_of}
 use Rattle.dns_network.proofs.Left.{leads_nowhere, leads_on, led_by}
 
-run_on : (first later : List Moment) (m : Machine) → Run m first → Run (last_of m first) later → Run m (first ++ later)
+run_on : (first later : List Moment) (m : Machine) → Run m first → Run (machine_at_end m first) later → Run m (first ++ later)
 run_on [] later m is more = more
 run_on (t ∷ rest) later m (here, is) more = (here, run_on rest later (machine_after t) is more)
 
-last_on : (first later : List Moment) (m : Machine) → last_of (last_of m first) later ≡ last_of m (first ++ later)
+last_on : (first later : List Moment) (m : Machine) → machine_at_end (machine_at_end m first) later ≡ machine_at_end m (first ++ later)
 last_on [] later m = refl
 last_on (t ∷ rest) later m = last_on rest later (machine_after t)
 
@@ -47,7 +47,7 @@ record RunsTo {I D : Type 0} {i : zone_index.Ghosts I} {d : store.Ghosts D} (tol
   pub run : List Moment
   pub runs : Run start run
   pub each : Each2 IsStepOf told run
-  pub kept : IsKept new (last_of start run)
+  pub kept : IsKept new (machine_at_end start run)
   pub left : RestLaw d → LeadsThrough old new start run
 
 closing_is : (number : ℕ) (fails : List Bool) (m next : Machine) (stated : machine.Effects) → Step fails m (Closed number) stated next
@@ -70,7 +70,7 @@ module _ {I D : Type 0} {i : zone_index.Ghosts I} {d : store.Ghosts D} where
   told_on : (first later : List Told) (old mid new : Primary I D i d) (m : Machine) → RunsTo first old mid m
       → ((e : Machine) → IsKept mid e → RunsTo later mid new e) → RunsTo (first ++ later) old new m
   told_on first later old mid new m is more =
-      let next = more (last_of m is.run) is.kept in
+      let next = more (machine_at_end m is.run) is.kept in
       record {
         run = is.run ++ next.run;
         runs = run_on is.run next.run m is.runs next.runs;
@@ -205,7 +205,7 @@ module _ {I D S N L : Type 0} {i : zone_index.Ghosts I} {d : store.Ghosts D} (s 
       → IsKept old.primary m → (e : Machine) × IsKept new.primary e
   moments_kept now moments old new m is kept =
       let run = moments_told now moments old new m is kept in
-      (last_of m run.run, run.kept)
+      (machine_at_end m run.run, run.kept)
 
   paused : (old new : Served I D S N L i d) (m : Machine) → (new ≡ old) ⊎ HasAsked n old new → IsKept old.primary m → IsKept new.primary m
   paused old new m (inl same) kept = stays n l old new m (ap (λ (x : Served I D S N L i d). x.primary) same) kept
@@ -244,7 +244,7 @@ module _ {I D S N L : Type 0} {i : zone_index.Ghosts I} {d : store.Ghosts D} (s 
       (λ e kept'. turns_to rest between new e is kept')
 
   pub turns_run : RestLaw d → (turns : List (List TurnMoment)) (old new : Served I D S N L i d) (m : Machine) → AreTurns s n l turns old new → IsKept old.primary m
-      → (run : List Moment) × IsRunOf (told_by turns) m run × IsKept new.primary (last_of m run) × LeadsThrough old.primary new.primary m run
+      → (run : List Moment) × IsRunOf (told_by turns) m run × IsKept new.primary (machine_at_end m run) × LeadsThrough old.primary new.primary m run
   turns_run law turns old new m is kept =
       let made = turns_to turns old new m is kept in
       (made.run, record { runs = made.runs; each = made.each }, made.kept, made.left law)

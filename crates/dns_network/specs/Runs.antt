@@ -14,7 +14,7 @@ use Rattle.dns_primary.specs.Machine.{Machine}
 use Rattle.dns_primary.specs.Flush.{all_out}
 use Rattle.dns_primary.specs.Keeps.{IsKept}
 use Rattle.dns_primary.specs.Step.{Event, Connect, Closed}
-use Rattle.dns_primary.specs.Runs.{Moment, Took, Stopped, Configured, Run, last_of}
+use Rattle.dns_primary.specs.Runs.{Moment, Took, Stopped, Configured, Run, machine_at_end}
 use Rattle.dns_network.specs.declared.network.Network.{Ghosts}
 use Rattle.dns_network.specs.declared.network.Observer as notes
 use Rattle.dns_network.specs.Delivery.{Served, out_of}
@@ -83,5 +83,5 @@ abbrev pub TurnsAreRuns : {I D S N L : Type 0} → zone_index.Ghosts I → store
 TurnsAreRuns {I = I} {D = D} {S = S} {N = N} {L = L} i d s n l =
     (turns : List (List TurnMoment)) (old new : Served I D S N L i d) (start : Machine)
     → AreTurns s n l turns old new → IsKept old.primary start
-    → (run : List Moment) × IsRunOf (told_by turns) start run × IsKept new.primary (last_of start run)
+    → (run : List Moment) × IsRunOf (told_by turns) start run × IsKept new.primary (machine_at_end start run)
     × LeadsThrough old.primary new.primary start run

@@ -27,7 +27,7 @@ use Rattle.dns_primary.specs.Checkpoint.{rebased, IsMovedUnlessClosed, IsCheckpo
 use Rattle.dns_primary.specs.Step.{Event, Datagram, Connect, Arrives, Flush, Checkpoint, Pump, Closed, IsCheckpointed, IsUpdateBegun, IsUpdated, Effects, AreFailures, IsRequestHandled, IsArrived, Goes, Lacks, Step}
 use Rattle.dns_primary.specs.Stop.{AreRecovered, IsSetAnew, IsConfigured}
 use Rattle.dns_primary.specs.Fresh.{IsLoaded, IsFresh, IsReopened, IsResumed, IsStart}
-use Rattle.dns_primary.specs.Runs.{Moment, Took, Stopped, Configured, machine_after, Happens, Run, last_of}
+use Rattle.dns_primary.specs.Runs.{Moment, Took, Stopped, Configured, machine_after, Happens, Run, machine_at_end}
 use Rattle.dns_primary.specs.Bounds.{HasFewStaged, IsBounded, IsForOpen}
 use Rattle.dns_primary.proofs.Quiet.{IsQuiet, transferred_quiet, pumped_quiet}
 use Rattle.dns_primary.proofs.Sound.{all_with}
@@ -313,7 +313,7 @@ moment_fits old (Took event fails effects new) g h = step_fits fails old event e
 moment_fits old (Configured new) g h = configured_fits old new g h
 moment_fits old (Stopped event tries new) g h = nothing_fits new g.waiting (all_recovered 1 (suc tries) old event 0 old.zones new.zones g.zones)
 
-run_fits : (start : Machine) (run : List Moment) → Run start run → AllFit start → AllFit (last_of start run)
+run_fits : (start : Machine) (run : List Moment) → Run start run → AllFit start → AllFit (machine_at_end start run)
 run_fits start [] r h = h
 run_fits start (t ∷ rest) r h = run_fits (machine_after t) rest r.1 (moment_fits start t r.0 h)
 
@@ -350,5 +350,5 @@ start_fits : (m : Machine) → IsStart m → AllFit m
 start_fits m (inl (zones, settings, f)) = fresh_fit zones settings m f
 start_fits m (inr (held, f)) = resumed_fit held m f
 
-pub run_bounded : (start : Machine) (run : List Moment) → IsStart start → Run start run → IsBounded (last_of start run)
-run_bounded start run begins r = bounded (last_of start run) (run_fits start run r (start_fits start begins))
+pub run_bounded : (start : Machine) (run : List Moment) → IsStart start → Run start run → IsBounded (machine_at_end start run)
+run_bounded start run begins r = bounded (machine_at_end start run) (run_fits start run r (start_fits start begins))

@@ -27,7 +27,7 @@ use Rattle.dns_primary.specs.Checkpoint.{IsCheckpoint}
 use Rattle.dns_primary.specs.Step.{Event, Datagram, Connect, Arrives, Flush, Checkpoint, Pump, Closed, IsCheckpointed, IsUpdateBegun, IsUpdated, Effects, IsRequestHandled, IsArrived, IsConnected, Goes, Lacks, Step}
 use Rattle.dns_primary.specs.Stop.{IsMaking, IsRecovered, AreRecovered, IsStopped, IsSetAnew}
 use Rattle.dns_primary.specs.Fresh.{IsLoaded, IsFresh}
-use Rattle.dns_primary.specs.Runs.{Moment, Took, Stopped, Configured, machine_after, Happens, Run, last_of, Carries, Brings, BringsIn, CameIn, AllCameIn, AllCameSince, openings_in, IsOpenedAtMost}
+use Rattle.dns_primary.specs.Runs.{Moment, Took, Stopped, Configured, machine_after, Happens, Run, machine_at_end, Carries, Brings, BringsIn, CameIn, AllCameIn, AllCameSince, openings_in, IsOpenedAtMost}
 use Rattle.dns_primary.proofs.Quiet.{transferred_quiet, pumped_quiet}
 use Rattle.dns_primary.proofs.Zonewise.{tested, pair_same, pair_on, pair_set, pair_map, pair_found_before, Same, same_itself, zone_flushed}
 use Rattle.dns_primary.proofs.Preserved.{has, same_moved, same_updates}
@@ -370,9 +370,9 @@ all_came_on m t rest (z ∷ olds) [] news p q = absurd p
 all_came_on m t rest (z ∷ olds) (y ∷ mids) [] p q = absurd q
 all_came_on m t rest (z ∷ olds) (y ∷ mids) (w ∷ news) p q = (came_on m t rest z y w p.0 q.0, all_came_on m t rest olds mids news p.1 q.1)
 
-run_came : (m : Machine) (run : List Moment) → Run m run → Each2 (CameFrom m run) m.zones (last_of m run).zones
+run_came : (m : Machine) (run : List Moment) → Run m run → Each2 (CameFrom m run) m.zones (machine_at_end m run).zones
 run_came m [] r = pair_same (CameFrom m []) (λ z. record { shape = refl; updates = λ u h. inl h; openings = omega arith }) m.zones
-run_came m (t ∷ rest) r = all_came_on m t rest m.zones (machine_after t).zones (last_of (machine_after t) rest).zones (moment_is m t r.0) (run_came (machine_after t) rest r.1)
+run_came m (t ∷ rest) r = all_came_on m t rest m.zones (machine_after t).zones (machine_at_end (machine_after t) rest).zones (moment_is m t r.0) (run_came (machine_after t) rest r.1)
 
 each_has : (P : Made → Type 0) (xs : List Made) → ((u : Made) → Has xs u → P u) → AllByRecursion P xs
 each_has P [] h = tt
@@ -393,8 +393,8 @@ all_from_none m run [] [] (z ∷ olds) (w ∷ news) f c = absurd f
 all_from_none m run [] (s ∷ settings) (z ∷ olds) (w ∷ news) f c = absurd f
 all_from_none m run (a ∷ zones) [] (z ∷ olds) (w ∷ news) f c = absurd f
 
-pub all_came : (zones : List Zone) (settings : List ZoneSpec) (start : Machine) (run : List Moment) → IsFresh zones settings start → Run start run → AllByRecursion (AllCameIn start run) (last_of start run).zones
-all_came zones settings start run f r = all_from_none start run zones settings start.zones (last_of start run).zones f.zones_are (run_came start run r)
+pub all_came : (zones : List Zone) (settings : List ZoneSpec) (start : Machine) (run : List Moment) → IsFresh zones settings start → Run start run → AllByRecursion (AllCameIn start run) (machine_at_end start run).zones
+all_came zones settings start run f r = all_from_none start run zones settings start.zones (machine_at_end start run).zones f.zones_are (run_came start run r)
 
 contained : (xs : List Made) (u : Made) → Has xs u → Contains xs u
 contained [] u h = absurd h
@@ -411,8 +411,8 @@ all_since m run (z ∷ olds) (w ∷ news) c = (
   all_since m run olds news c.1,
 )
 
-pub all_came_since : (start : Machine) (run : List Moment) → Run start run → Each2 (AllCameSince start run) start.zones (last_of start run).zones
-all_came_since start run r = all_since start run start.zones (last_of start run).zones (run_came start run r)
+pub all_came_since : (start : Machine) (run : List Moment) → Run start run → Each2 (AllCameSince start run) start.zones (machine_at_end start run).zones
+all_came_since start run r = all_since start run start.zones (machine_at_end start run).zones (run_came start run r)
 
 all_counted : (m : Machine) (run : List Moment) (olds news : List ZoneState) → Each2 (CameFrom m run) olds news → Each2 (IsOpenedAtMost (openings_in run)) olds news
 all_counted m run [] [] c = tt
@@ -420,8 +420,8 @@ all_counted m run [] (w ∷ news) c = absurd c
 all_counted m run (z ∷ olds) [] c = absurd c
 all_counted m run (z ∷ olds) (w ∷ news) c = ((c.0).openings, all_counted m run olds news c.1)
 
-pub run_counts : (m : Machine) (run : List Moment) → Run m run → Each2 (IsOpenedAtMost (openings_in run)) m.zones (last_of m run).zones
-run_counts m run r = all_counted m run m.zones (last_of m run).zones (run_came m run r)
+pub run_counts : (m : Machine) (run : List Moment) → Run m run → Each2 (IsOpenedAtMost (openings_in run)) m.zones (machine_at_end m run).zones
+run_counts m run r = all_counted m run m.zones (machine_at_end m run).zones (run_came m run r)
 
 -- the settings stay in a step, and where the machine is opened again with the same ones
 abbrev pub StaysSet : ZoneState → ZoneState → Type 0

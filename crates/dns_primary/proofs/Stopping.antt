@@ -10,7 +10,7 @@ use Rattle.dns_primary.specs.Machine.{Setting, Made, ZoneState, Waits, Machine, 
 use Rattle.dns_primary.specs.Step.{Event}
 use Rattle.dns_primary.specs.Stop.{IsMaking, IsRecovered, AreRecovered, IsStopped, IsSetAnew, IsConfigured}
 use Rattle.dns_primary.specs.Fresh.{IsLoaded, IsFresh, IsReopened, IsResumed, IsStart}
-use Rattle.dns_primary.specs.Runs.{Moment, Took, Stopped, Configured, machine_after, sent_in, Happens, Run, last_of, AllLast, IsHistory, HasHistory, Lasts, StaysTrue, Promise, Continuation}
+use Rattle.dns_primary.specs.Runs.{Moment, Took, Stopped, Configured, machine_after, sent_in, Happens, Run, machine_at_end, AllLast, IsHistory, HasHistory, Lasts, StaysTrue, Promise, Continuation}
 use Rattle.dns_primary.proofs.Zonewise.{all_last_same, all_last_on, pair_map, pair_over}
 use Rattle.dns_primary.proofs.Sound.{IsPlaced, IsSound, Preserves, all_true_over}
 use Rattle.dns_primary.proofs.Preserved.{step_preserves}
@@ -79,9 +79,9 @@ moment_preserves old (Configured new) s h = configured_preserves old new s h
 
 -- what a run keeps, from any sound machine
 record Kept (start : Machine) (run : List Moment) : Type 0 where
-  loaded : AllLast start.zones (last_of start run).zones
-  history : AllByRecursion HasHistory (last_of start run).zones
-  moments : AllByRecursion (StaysTrue (last_of start run).zones) run
+  loaded : AllLast start.zones (machine_at_end start run).zones
+  history : AllByRecursion HasHistory (machine_at_end start run).zones
+  moments : AllByRecursion (StaysTrue (machine_at_end start run).zones) run
 
 run_keeps : (start : Machine) (run : List Moment) → IsSound start → Run start run → Kept start run
 run_keeps start [] s r = record { loaded = all_last_same start.zones; history = s.zones; moments = tt }
@@ -89,9 +89,9 @@ run_keeps start (t ∷ rest) s r =
     let step = moment_preserves start t s r.0 in
     let later = run_keeps (machine_after t) rest step.sound r.1 in
     record {
-      loaded = all_last_on start.zones (machine_after t).zones (last_of (machine_after t) rest).zones step.lasts later.loaded;
+      loaded = all_last_on start.zones (machine_after t).zones (machine_at_end (machine_after t) rest).zones step.lasts later.loaded;
       history = later.history;
-      moments = (record { shown = later.loaded; answered = all_true_over (machine_after t).zones (last_of (machine_after t) rest).zones later.loaded (sent_in t) step.good }, later.moments);
+      moments = (record { shown = later.loaded; answered = all_true_over (machine_after t).zones (machine_at_end (machine_after t) rest).zones later.loaded (sent_in t) step.good }, later.moments);
     }
 
 -- a machine to which nothing has happened
@@ -136,15 +136,15 @@ start_sound : (start : Machine) → IsStart start → IsSound start
 start_sound start (inl (zones, settings, f)) = fresh_sound zones settings start f
 start_sound start (inr (held, f)) = resumed_sound held start f
 
-pub start_keeps : (start : Machine) (run : List Moment) → IsStart start → Run start run → AllLast start.zones (last_of start run).zones × AllByRecursion HasHistory (last_of start run).zones
+pub start_keeps : (start : Machine) (run : List Moment) → IsStart start → Run start run → AllLast start.zones (machine_at_end start run).zones × AllByRecursion HasHistory (machine_at_end start run).zones
 start_keeps start run begins r = (let kept = run_keeps start run (start_sound start begins) r in (kept.loaded, kept.history))
 
 -- from a moment of a run to a later one
-run_sound : (start : Machine) (run : List Moment) → IsSound start → Run start run → IsSound (last_of start run)
+run_sound : (start : Machine) (run : List Moment) → IsSound start → Run start run → IsSound (machine_at_end start run)
 run_sound start [] s r = s
 run_sound start (t ∷ rest) s r = run_sound (machine_after t) rest (moment_preserves start t s r.0).sound r.1
 
 pub later_lasts : (zones : List Zone) (settings : List ZoneSpec) (start : Machine) (earlier between : List Moment) → IsFresh zones settings start → Run start earlier
-    → Run (last_of start earlier) between → AllLast (last_of start earlier).zones (last_of (last_of start earlier) between).zones
+    → Run (machine_at_end start earlier) between → AllLast (machine_at_end start earlier).zones (machine_at_end (machine_at_end start earlier) between).zones
 later_lasts zones settings start earlier between f r q =
-    (run_keeps (last_of start earlier) between (run_sound start earlier (fresh_sound zones settings start f) r) q).loaded
+    (run_keeps (machine_at_end start earlier) between (run_sound start earlier (fresh_sound zones settings start f) r) q).loaded

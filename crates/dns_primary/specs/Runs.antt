@@ -56,9 +56,9 @@ abbrev pub Run : Machine → List Moment → Type 0
 Run m [] = Unit {0}
 Run m (t ∷ rest) = Happens m t × Run (machine_after t) rest
 
-abbrev pub last_of : Machine → List Moment → Machine
-last_of m [] = m
-last_of m (t ∷ rest) = last_of (machine_after t) rest
+abbrev pub machine_at_end : Machine → List Moment → Machine
+machine_at_end m [] = m
+machine_at_end m (t ∷ rest) = machine_at_end (machine_after t) rest
 
 -- An update is accepted on the version with this number: judged on the records of that version it leaves its
 -- own (RFC 2136 3), and there is room for those: they are at most 65,536, their snapshot and their entry fit
@@ -197,17 +197,17 @@ IsOpenedAtMost times old new = new.openings ≤ old.openings + times
 -- them; among these are all that was shown and all that was answered NOERROR at any moment of the run. No
 -- store says that it was opened more often than it was.
 pub record Promise (start : Machine) (run : List Moment) : Type 0 where
-  pub loaded : AllLast start.zones (last_of start run).zones
-  pub history : AllByRecursion HasHistory (last_of start run).zones
-  pub came : AllByRecursion (AllCameIn start run) (last_of start run).zones
-  pub openings : Each2 (IsOpenedAtMost (openings_in run)) start.zones (last_of start run).zones
-  pub moments : AllByRecursion (StaysTrue (last_of start run).zones) run
+  pub loaded : AllLast start.zones (machine_at_end start run).zones
+  pub history : AllByRecursion HasHistory (machine_at_end start run).zones
+  pub came : AllByRecursion (AllCameIn start run) (machine_at_end start run).zones
+  pub openings : Each2 (IsOpenedAtMost (openings_in run)) start.zones (machine_at_end start run).zones
+  pub moments : AllByRecursion (StaysTrue (machine_at_end start run).zones) run
 
 -- The same of a run that begins with versions that were there: of its updates each was there or came in the
 -- run.
 pub record Continuation (start : Machine) (run : List Moment) : Type 0 where
-  pub loaded : AllLast start.zones (last_of start run).zones
-  pub history : AllByRecursion HasHistory (last_of start run).zones
-  pub came : Each2 (AllCameSince start run) start.zones (last_of start run).zones
-  pub openings : Each2 (IsOpenedAtMost (openings_in run)) start.zones (last_of start run).zones
-  pub moments : AllByRecursion (StaysTrue (last_of start run).zones) run
+  pub loaded : AllLast start.zones (machine_at_end start run).zones
+  pub history : AllByRecursion HasHistory (machine_at_end start run).zones
+  pub came : Each2 (AllCameSince start run) start.zones (machine_at_end start run).zones
+  pub openings : Each2 (IsOpenedAtMost (openings_in run)) start.zones (machine_at_end start run).zones
+  pub moments : AllByRecursion (StaysTrue (machine_at_end start run).zones) run

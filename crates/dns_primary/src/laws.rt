@@ -16,7 +16,7 @@ ghost use Rattle.dns_primary.specs.Continues.{Continues, OpensByEvent};
 ghost use Rattle.dns_primary.specs.Causes.{HaveCauses};
 ghost use Rattle.dns_primary.specs.declared.event.Noted.TheVariants.{OutOfMemory};
 ghost use Rattle.dns_primary.specs.Runs.{IsNoAcknowledgement, IsReleasedFrom, brings_update};
-ghost use Rattle.dns_primary.specs.Runs.{Moment, Run, Promise, Continuation, last_of};
+ghost use Rattle.dns_primary.specs.Runs.{Moment, Run, Promise, Continuation, machine_at_end};
 ghost use Rattle.dns_primary.specs.Bounds.{IsBounded};
 ghost use Rattle.dns_primary.specs.declared.primary.ZoneSpec.{ZoneSpec as StatedSettings};
 
@@ -51,7 +51,7 @@ pub fn resumed_law()
 /// are staged: no flush makes more entries of a zone.
 pub fn flush_law()
     ensures { (start : Machine) (run : List Moment) → IsStart start → Run start run
-        → IsBounded (last_of start run) }
+        → IsBounded (machine_at_end start run) }
 {}
 
 /// What a crash leaves of a zone's device is what the machine's stop leaves of the zone: the version that was

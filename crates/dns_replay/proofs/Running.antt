@@ -14,7 +14,7 @@ use Rattle.dns_primary.specs.declared.primary.ZoneSpec.{ZoneSpec}
 use Rattle.dns_primary.specs.Machine.{Machine}
 use Rattle.dns_primary.specs.Keeps.{IsKept}
 use Rattle.dns_primary.specs.HandOut.{AreSetAs}
-use Rattle.dns_primary.specs.Runs.{Moment, Run, last_of}
+use Rattle.dns_primary.specs.Runs.{Moment, Run, machine_at_end}
 use Rattle.dns_primary.specs.Step.{Flush}
 use Rattle.dns_primary.proofs.Brought.{StaysSet, step_set, stopped_set, all_stay_set, stay_set_on}
 use Rattle.dns_primary.proofs.StaysSet.{set_lasts}
@@ -28,11 +28,11 @@ use Rattle.dns_replay.specs.Crashes.{IsCrash}
 use Rattle.dns_replay.specs.Runs.{IsAt, IsMachineReached, LeadsOn, RanScript}
 
 -- moments after others
-pub runs_joined : (start : Machine) (xs ys : List Moment) → Run start xs → Run (last_of start xs) ys → Run start (xs ++ ys)
+pub runs_joined : (start : Machine) (xs ys : List Moment) → Run start xs → Run (machine_at_end start xs) ys → Run start (xs ++ ys)
 runs_joined start [] ys r q = q
 runs_joined start (x ∷ xs) ys r q = (r.0, runs_joined _ xs ys r.1 q)
 
-pub last_joined : (start : Machine) (xs ys : List Moment) → last_of start (xs ++ ys) ≡ last_of (last_of start xs) ys
+pub last_joined : (start : Machine) (xs ys : List Moment) → machine_at_end start (xs ++ ys) ≡ machine_at_end (machine_at_end start xs) ys
 last_joined start [] ys = refl
 last_joined start (x ∷ xs) ys = last_joined _ xs ys
 
@@ -40,7 +40,7 @@ last_joined start (x ∷ xs) ys = last_joined _ xs ys
 pub record IsRunning (s : Standing) (led : Led) : Type 0 where
   pub run : Run (machine_of s) led.moments
   pub set : Each2 StaysSet (machine_of s).zones (machine_of led.standing).zones
-  pub last : last_of (machine_of s) led.moments ≡ machine_of led.standing
+  pub last : machine_at_end (machine_of s) led.moments ≡ machine_of led.standing
 
 run_of : (s : Standing) (led is : Led) → led ≡ is → IsRunning s is → IsRunning s led
 run_of s led is e r = subst (λ (l : Led). IsRunning s l) (sym e) r
@@ -68,7 +68,7 @@ pub record IsRunUpTo (names : List Labels) (crash : Crash) (start : Machine) (al
   pub written : Appends out out_now text
   pub run : Run start moments
   pub set : Each2 StaysSet start.zones (machine_of now).zones
-  pub last : last_of start moments ≡ machine_of now
+  pub last : machine_at_end start moments ≡ machine_of now
   pub goes_on : (more : Led) (ending : Ending) → Runs names crash now number left more ending → Runs names crash (Takes start) 1 all (record { moments = moments ++ more.moments; text = text ++ more.text; standing = more.standing }) ending
 
 module _ (names : List Labels) (crash : Crash) (start : Machine) (all : List (List ℕ)) where
@@ -84,7 +84,7 @@ module _ (names : List Labels) (crash : Crash) (start : Machine) (all : List (Li
         written = appends_more out out_now out_after h.text first.text h.written a;
         run = runs_joined start h.moments first.moments h.run (subst (λ (m : Machine). Run m first.moments) (sym h.last) more.run);
         set = stay_set_on start.zones (machine_of now).zones (machine_of first.standing).zones h.set more.set;
-        last = last_joined start h.moments first.moments ∙ ap (λ (m : Machine). last_of m first.moments) h.last ∙ more.last;
+        last = last_joined start h.moments first.moments ∙ ap (λ (m : Machine). machine_at_end m first.moments) h.last ∙ more.last;
         goes_on = λ later ending r.
             let whole_led : Led = record { moments = first.moments ++ later.moments; text = first.text ++ later.text; standing = later.standing } in
             let here = h.goes_on whole_led ending (subst (λ (ls : List (List ℕ)). Runs names crash now number ls whole_led ending) (sym e) (inl (first, later, p, r, refl))) in

@@ -22,7 +22,7 @@ use Rattle.dns_primary.specs.Steps.{SteppedBy}
 use Rattle.dns_primary.specs.Stop.{IsStopped}
 use Rattle.dns_primary.specs.Open.{AreDevicesOf, AreRecoverable}
 use Rattle.dns_primary.specs.HandOut.{AreSetAs}
-use Rattle.dns_primary.specs.Runs.{Moment, Run, last_of}
+use Rattle.dns_primary.specs.Runs.{Moment, Run, machine_at_end}
 use Rattle.dns_primary.specs.Fresh.{IsFresh}
 use Rattle.dns_replay.specs.Keeps.{ZoneKeep}
 use Rattle.dns_replay.specs.Crashes.{IsCrash}
@@ -167,7 +167,7 @@ pub record IsMachineReached (names : List Labels) (settings : List ZoneSpec) (m 
   pub fresh : IsFresh zones loaded first
   pub before : List Moment
   pub run : Run first before
-  pub last : last_of first before ≡ m
+  pub last : machine_at_end first before ≡ m
 
 -- From each such machine that the primary kept, the lines lead there, by moments that are a run of the
 -- machine.

@@ -10,7 +10,7 @@ use Rattle.dns_zone.specs.declared.index.ZoneIndex as zone_index
 use Rattle.dns_store.specs.declared.zone_store.ZoneStore as store
 use Rattle.dns_primary.specs.Keeps.{IsKept}
 use Rattle.dns_primary.specs.Machine.{Machine}
-use Rattle.dns_primary.specs.Runs.{Moment, last_of}
+use Rattle.dns_primary.specs.Runs.{Moment, machine_at_end}
 use Rattle.dns_primary.specs.Step.{Event}
 use Rattle.dns_primary.specs.declared.event.Effects.{Effects}
 use Rattle.dns_primary.specs.declared.primary.Primary.{Primary}
@@ -31,7 +31,7 @@ use Rattle.dns_network.specs.Turns.{AreTurns, IsRound}
 use Rattle.dns_network.proofs.Noted.{turns_noted}
 use Rattle.dns_network.proofs.Running.{turns_run}
 use Rattle.dns_network.proofs.Steps.{step_more}
-use Rattle.dns_counters.specs.Counters.{counted, no_counts, with_report, with_reports}
+use Rattle.dns_counters.specs.Counters.{counted_if, no_counts, with_report, with_reports}
 use Rattle.dns_counters.specs.Lines.{counts_told}
 use Rattle.dns_counters.specs.Telling.{IsToldIfDue, is_due}
 use Rattle.dns_counters.specs.declared.counters.Counters.{Counters}
@@ -76,7 +76,7 @@ module _ {L : Type 0} (l : notes.Ghosts L) (counting : L → Counting) (noted : 
   all_counted (one ∷ rest) old new c (between, here, pending) on is =
       let step = each_counted old one between here in
       all_counted rest between new (with_report c one) pending (ap (λ (x : Counting). x.is_on) step ∙ on)
-      (ap (λ (x : Counting). x.counters) step ∙ ap (λ (b : Bool). counted b (counting old).counters one) on ∙ ap (λ (x : Counters). with_report x one) is)
+      (ap (λ (x : Counting). x.counters) step ∙ ap (λ (b : Bool). counted_if b (counting old).counters one) on ∙ ap (λ (x : Counters). with_report x one) is)
 
 module _ {I D S N L : Type 0} {i : zone_index.Ghosts I} {d : store.Ghosts D} (s : stream.Ghosts S) (n : Ghosts N S) (l : notes.Ghosts L) (counting : L → Counting) (every : ℕ) (origins : List Labels) where
   -- A turn is made, after which nothing is told, or the counts are.
@@ -114,14 +114,14 @@ module _ {I D S N L : Type 0} {i : zone_index.Ghosts I} {d : store.Ghosts D} (s 
         let all : took.0 ≡ first = are ∙ ap (λ (x : List Report). first ++ x) none ∙ append-nil first in
         let handed : AreReported l first a.served.notes between.served.notes = subst (λ (x : List Report). AreReported l x a.served.notes between.served.notes) all took.2 in
         let so_far = with_reports c first in
-        let after = last_of m to.0 in
+        let after = machine_at_end m to.0 in
         let counts : (every ≡ 0 → ⊥) → ((counting between.served.notes).is_on ≡ true) × ((counting between.served.notes).counters ≡ so_far) = λ some. all_counted l counting noted seen first a.served.notes between.served.notes c handed (on some).0 (on some).1 in
         let rest = told_of turns between b after so_far pending to.2 counts in
         go first reported to.0 to.1 rest (text_of here.told counts to.2)
       where
         go : (first : List Report) → AreReportsOfTurn turn first → (run : List Moment) → IsRunOf (told_by (turn ∷ [])) m run
-            → ((texts : List (List ℕ)) × AreCountedTurns every origins (with_reports c first) (last_of m run) turns texts × Appends between.out b.out (all_of texts))
-            → ((text : List ℕ) × ((text ≡ []) ⊎ ((every ≡ 0 → ⊥) × (text ≡ counts_told (with_reports c first) origins (last_of m run).zones))) × Appends a.out between.out text)
+            → ((texts : List (List ℕ)) × AreCountedTurns every origins (with_reports c first) (machine_at_end m run) turns texts × Appends between.out b.out (all_of texts))
+            → ((text : List ℕ) × ((text ≡ []) ⊎ ((every ≡ 0 → ⊥) × (text ≡ counts_told (with_reports c first) origins (machine_at_end m run).zones))) × Appends a.out between.out text)
             → (texts : List (List ℕ)) × AreCountedTurns every origins c m (turn ∷ turns) texts × Appends a.out b.out (all_of texts)
         go first reported run ran (texts, each, later) (text, told, now) = (
           text ∷ texts,

@@ -6,7 +6,7 @@ use Rattle.dns_names.specs.Name.{Labels}
 use Rattle.dns_primary.specs.Step.{Event}
 use Rattle.dns_primary.specs.declared.event.Effects.{Effects}
 use Rattle.dns_network.specs.Notes.{OfEvent, Report}
-use Rattle.dns_counters.specs.Counters.{counted}
+use Rattle.dns_counters.specs.Counters.{counted_if}
 use Rattle.dns_counters.specs.declared.counting.Counting.{Counting}
 use Rattle.dns_service.specs.Counting.{counting_after}
 use Rattle.dns_service.specs.declared.log.Counts.{Counts}
@@ -65,5 +65,5 @@ written_said said log written written_after lines lines_after counts counts_afte
 }
 
 -- What counts a report, by its parts.
-pub counted_once : (old new : Counting) (one : Report) → new.is_on ≡ old.is_on → new.counters ≡ counted old.is_on old.counters one → new ≡ counting_after old one
+pub counted_once : (old new : Counting) (one : Report) → new.is_on ≡ old.is_on → new.counters ≡ counted_if old.is_on old.counters one → new ≡ counting_after old one
 counted_once old new one on counts = λ i. record { counters = counts i; is_on = on i }

@@ -28,7 +28,7 @@ use Rattle.dns_primary.specs.HandOut.{AreSetAs}
 use Rattle.dns_primary.specs.Keeps.{IsKept}
 use Rattle.dns_primary.specs.Machine.{Machine, ZoneState}
 use Rattle.dns_primary.specs.Open.{AreOpened, AreRecoverable, AreRecoverableAnew, LeaveRecovered, devices_of}
-use Rattle.dns_primary.specs.Runs.{Moment, Took, Stopped, Configured, Run, last_of}
+use Rattle.dns_primary.specs.Runs.{Moment, Took, Stopped, Configured, Run, machine_at_end}
 use Rattle.dns_primary.specs.Step.{Event}
 use Rattle.dns_primary.specs.Stop.{IsMaking, IsStopped, OpensAsRecovered}
 use Rattle.dns_primary.specs.declared.primary.Primary.{Primary}
@@ -77,11 +77,11 @@ recoverable_set g tries m event index (z ∷ zones) (a ∷ names) (s ∷ known) 
 recoverable_set g tries m event index _ _ _ _ h = absurd h
 
 -- In a run that turns make the zones keep their settings.
-run_set : (told : List Told) (start : Machine) (run : List Moment) → Run start run → Each2 IsStepOf told run → Each2 StaysSet start.zones (last_of start run).zones
+run_set : (told : List Told) (start : Machine) (run : List Moment) → Run start run → Each2 IsStepOf told run → Each2 StaysSet start.zones (machine_at_end start run).zones
 run_set [] start [] r each = all_stay_set start.zones
 run_set (t ∷ told) start [] r each = absurd each
 run_set [] start (one ∷ run) r each = absurd each
-run_set (t ∷ told) start (Took event fails effects new ∷ run) r each = stay_set_on start.zones new.zones (last_of new run).zones (step_set fails start event effects new r.0) (run_set told new run r.1 each.1)
+run_set (t ∷ told) start (Took event fails effects new ∷ run) r each = stay_set_on start.zones new.zones (machine_at_end new run).zones (step_set fails start event effects new r.0) (run_set told new run r.1 each.1)
 run_set (t ∷ told) start (Stopped event tries new ∷ run) r each = absurd each.0
 run_set (t ∷ told) start (Configured new ∷ run) r each = absurd each.0
 
@@ -123,11 +123,11 @@ module _ {D I : Type 0} (g : Ghosts D) {i : zone_index.Ghosts I} {s : store.Ghos
   led turns m event tries may start stopped opened ran =
       let names = origins_of c.zones.items in
       let at = set_lasts names is.known m.zones start.zones (recoverable_set g tries m event 0 m.zones names is.known is.devices may) (stopped_set tries m event start stopped) in
-      let end = set_lasts names is.known start.zones (last_of start ran.0).zones at (run_set (told_by turns) start ran.0 ran.1.runs ran.1.each) in (
+      let end = set_lasts names is.known start.zones (machine_at_end start ran.0).zones at (run_set (told_by turns) start ran.0 ran.1.runs ran.1.each) in (
         ran.0,
         ran.1,
         (
-          (λ within. left (last_of start ran.0) within names is.known ran.2.0 end),
+          (λ within. left (machine_at_end start ran.0) within names is.known ran.2.0 end),
           served_from {I = I} g s (λ x. store_device x) (suc tries) m event start ran.0 (there start ran.0) 0 m.zones is.devices old.pending.items new.pending.items opened.1 ran.2.1,
         ),
       )

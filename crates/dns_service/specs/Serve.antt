@@ -27,7 +27,7 @@ use Rattle.dns_primary.specs.HandOut.{AreSetAs}
 use Rattle.dns_primary.specs.Keeps.{IsKept}
 use Rattle.dns_primary.specs.Machine.{Machine, ZoneState}
 use Rattle.dns_primary.specs.Open.{AreRecoverable, devices_of}
-use Rattle.dns_primary.specs.Runs.{Moment, last_of}
+use Rattle.dns_primary.specs.Runs.{Moment, machine_at_end}
 use Rattle.dns_primary.specs.Step.{Event}
 use Rattle.dns_primary.specs.Stop.{IsMaking, OpensAsRecovered}
 use Rattle.dns_primary.specs.declared.primary.Primary.{Primary}
@@ -90,7 +90,7 @@ AreServedFrom g tries m event start run index _ _ _ = ⊥
 abbrev pub HaveServed : {D : Type 0} → Ghosts D → List (List TurnMoment) → List ZoneSettings → List D
     → OfRecovered D
 HaveServed g turns zones back devices known m event tries start =
-    HaveRun turns (λ _ run. AreLeft g zones back known (last_of start run)
+    HaveRun turns (λ _ run. AreLeft g zones back known (machine_at_end start run)
     × AreServedFrom g (suc tries) m event start run 0 m.zones devices back) start
 
 -- What a server of a configuration's zones is to tell of.

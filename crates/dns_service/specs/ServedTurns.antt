@@ -7,7 +7,7 @@ use Rattle.dns_store.specs.declared.zone_store.ZoneStore as store
 use Rattle.dns_primary.specs.declared.primary.Primary.{Primary}
 use Rattle.dns_primary.specs.Keeps.{IsKept}
 use Rattle.dns_primary.specs.Machine.{Machine}
-use Rattle.dns_primary.specs.Runs.{Moment, last_of}
+use Rattle.dns_primary.specs.Runs.{Moment, machine_at_end}
 use Rattle.dns_network.specs.declared.network.Network.{Ghosts}
 use Rattle.dns_network.specs.declared.network.Observer as notes
 use Rattle.dns_network.specs.Delivery.{Served}
@@ -80,7 +80,7 @@ HasRun keeps says = (turns : List (List TurnMoment)) × ((m : Machine) → keeps
 -- leaves each zone's store as it allows.
 abbrev pub IsLedTo : {I S : Type 0} {i : zone_index.Ghosts I} {s : store.Ghosts S} → Primary I S i s
     → Primary I S i s → OfRun
-IsLedTo old new m run = IsKept new (last_of m run) × LeadsThrough old new m run
+IsLedTo old new m run = IsKept new (machine_at_end m run) × LeadsThrough old new m run
 
 -- So many turns were made of a primary, which is this one now; and of each machine that it kept, and the
 -- turns, this is said.

@@ -87,8 +87,8 @@ EachReadOld c root version base changes P =
     → P shape o
 
 -- Each crash leaves it as it is migrated.
-abbrev pub LeavesMigrated : {D : Type 0} → Ghosts D → D → Shape → Opened → Type 0
-LeavesMigrated g device shape o =
+abbrev pub LeavesInFormatTwo : {D : Type 0} → Ghosts D → D → Shape → Opened → Type 0
+LeavesInFormatTwo g device shape o =
     (after : Opened) → IsMigrated shape o after → (c : Content) → g.may_leave device c → opens shape after c
 
 -- The newest version takes more sectors of format 2 than a snapshot has.

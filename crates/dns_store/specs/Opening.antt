@@ -54,8 +54,8 @@ abbrev pub IsRead : Sizes → Content → Opened → Stored → Root → Cursor 
 IsRead sizes c o s root end base changes newest = IsReadIn Two sizes c o s root end base changes newest
 
 -- All that was recovered is what is stored.
-abbrev pub IsRecovered : {I : Type 0} → Format → Shape → Content → Opened → Stored → Recovered I → Type 0
-IsRecovered f shape c o s r =
+abbrev pub IsAllRead : {I : Type 0} → Format → Shape → Content → Opened → Stored → Recovered I → Type 0
+IsAllRead f shape c o s r =
     IsReadIn f (sizes_of shape) c o s r.root r.end r.base.records r.changes.items r.newest.records
 
 -- What was recovered is of a device of so many sectors, which all are of its two banks but for the first: the
@@ -94,7 +94,7 @@ ReadsAltered g f shape device result =
     g.is_honest device → IsInRange shape.snapshot shape.journal
     → (c : Content) → IsAltered f c (g.seen device)
     → (o : Opened) (s : Stored) → OpensAsIn f (sizes_of shape) c s → IsPartOfIn f shape o s
-    → MatchResult result (IsRecovered f shape c o s) (RefusesAltered f c (g.seen device))
+    → MatchResult result (IsAllRead f shape c o s) (RefusesAltered f c (g.seen device))
 
 -- Each crash leaves a store that opens.
 abbrev pub MayOpen : {D : Type 0} → Ghosts D → Shape → D → Type 0
@@ -128,8 +128,8 @@ abbrev pub OnDevice : {D I : Type 0} {g : Ghosts D} → Result (KeptStore D I g 
 OnDevice result P = MatchResult result (λ r. P (store_device r.0)) (λ e. P e.0)
 
 -- The store keeps these versions, with nothing staged.
-abbrev pub IsLent : {D I : Type 0} {g : Ghosts D} → KeptStore D I g → Kept → Type 0
-IsLent store k = IsBaseLent store.journal store.base store.changes.items k
+abbrev pub KeepsFlushed : {D I : Type 0} {g : Ghosts D} → KeptStore D I g → Kept → Type 0
+KeepsFlushed store k = IsBaseLent store.journal store.base store.changes.items k
 
 -- The store keeps these versions.
 abbrev pub keeps : {D I : Type 0} {g : Ghosts D} → KeptStore D I g → Kept → Type 0

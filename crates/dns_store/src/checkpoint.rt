@@ -83,7 +83,7 @@ impl From<ChangeError> for CheckpointError {
 }
 
 impl<D: Sectors, I: ZoneIndex> KeptStore<D, I> {
-    ghost use Rattle.dns_store.specs.Opening.{store_device, keeps, IsLent, StoreLeavesOnly};
+    ghost use Rattle.dns_store.specs.Opening.{store_device, keeps, KeepsFlushed, StoreLeavesOnly};
     ghost use Rattle.dns_store.specs.Checkpoint.{IsKeptNumber};
 
     // Writes the new base's snapshot and the entries of the changes that are kept into the bank that isn't in
@@ -91,11 +91,11 @@ impl<D: Sectors, I: ZoneIndex> KeptStore<D, I> {
     // write.
     pub(crate) fn move_base(&mut self, keep: usize, room: usize) -> Result<(), CheckpointError>
         // A crash at any moment of it leaves the shown version, with the old base or the new one.
-        ensures any_moment { (k : Kept) (n : ℕ) → IsLent self.old k → IsKeptNumber k keep room n
+        ensures any_moment { (k : Kept) (n : ℕ) → KeepsFlushed self.old k → IsKeptNumber k keep room n
             → StoreLeavesOnly self.old self.new (OpensAsEither opens k (length k.shown - n)) }
-        ensures moved { (k : Kept) (n : ℕ) → IsLent self.old k → IsKeptNumber k keep room n
-            → OnOk result (IsLent self.new (moved_to (length k.shown - n) k)) }
-        ensures failed { (k : Kept) (n : ℕ) → IsLent self.old k → IsKeptNumber k keep room n
+        ensures moved { (k : Kept) (n : ℕ) → KeepsFlushed self.old k → IsKeptNumber k keep room n
+            → OnOk result (KeepsFlushed self.new (moved_to (length k.shown - n) k)) }
+        ensures failed { (k : Kept) (n : ℕ) → KeepsFlushed self.old k → IsKeptNumber k keep room n
             → result ≡ Err CheckpointError.Device
             → (k.closed ≡ false) × IsClosedBy self.new.journal (closed_between (length k.shown - n) k) }
         ensures closed { (k : Kept) → keeps self.old k

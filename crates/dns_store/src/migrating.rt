@@ -9,7 +9,7 @@ ghost use Rattle.dns_journal.specs.Phases.{IfSettled};
 ghost use Rattle.dns_store.specs.Versions.{shape_given};
 ghost use Rattle.dns_layout.specs.declared.format.Format.TheVariants as formats;
 ghost use Rattle.dns_store.specs.Opens.{sizes_of};
-ghost use Rattle.dns_store.specs.Migrating.{MigratesPossible, MigratesAsPossible, LeavesMigrated};
+ghost use Rattle.dns_store.specs.Migrating.{MigratesPossible, MigratesAsPossible, LeavesInFormatTwo};
 ghost use Rattle.dns_store.specs.Migrating.{MigrateRefusal, IsMigratedStore, IsTooLarge, StaysOrMigrates};
 ghost use Rattle.dns_store.specs.Migrating.{EachOld, EachReadOld};
 
@@ -229,7 +229,7 @@ fn write_anew<D: Sectors, I: ZoneIndex>(
         (StaysOrMigrates root version base.now changes.now (D.seen device.old))) }
     ensures migrated { IfSettled D.Sectors device.old
         (EachReadOld (D.seen device.old) root version base.now changes.now
-        (λ shape o. OnOk result (LeavesMigrated D.Sectors device.new shape o))) }
+        (λ shape o. OnOk result (LeavesInFormatTwo D.Sectors device.new shape o))) }
     ensures too_large { EachReadOld (D.seen device.old) root version base.now changes.now
         (λ shape o. result ≡ Err MigrateError.ZoneTooLarge → IsTooLarge shape.snapshot o) }
     ensures no_room { EachReadOld (D.seen device.old) root version base.now changes.now

@@ -19,7 +19,7 @@ use Rattle.dns_primary.specs.Transfer.{zone_named}
 use Rattle.dns_primary.specs.Step.{Event, Datagram, Arrives, Connect, Flush, Checkpoint, Pump, Closed, Effects, Step}
 use Rattle.dns_primary.specs.Continues.{OpensOn, Continues}
 use Rattle.dns_primary.specs.Fresh.{IsLoaded}
-use Rattle.dns_primary.specs.Runs.{Moment, Took, Stopped, Configured, machine_after, Run, last_of, HasHistory, AllLast, Brings, BringsIn, CameIn, AllCameSince, StaysTrue, Promise, Continuation}
+use Rattle.dns_primary.specs.Runs.{Moment, Took, Stopped, Configured, machine_after, Run, machine_at_end, HasHistory, AllLast, Brings, BringsIn, CameIn, AllCameSince, StaysTrue, Promise, Continuation}
 use Rattle.dns_primary.proofs.Brought.{all_came_since}
 use Rattle.dns_primary.proofs.Stopping.{fresh_keeps, resumed_keeps}
 use Rattle.dns_primary.proofs.Continued.{run_goes, step_opened}
@@ -37,11 +37,11 @@ use Rattle.dns_theorem.proofs.Shown.{IsFewSoas, apex_is, held_few, held_is_follo
 use Rattle.dns_primary.proofs.Zonewise.{versions_joined}
 
 -- ---- runs
-pub run_parts : (m : Machine) (xs ys : List Moment) → Run m (xs ++ ys) → Run m xs × Run (last_of m xs) ys
+pub run_parts : (m : Machine) (xs ys : List Moment) → Run m (xs ++ ys) → Run m xs × Run (machine_at_end m xs) ys
 run_parts m [] ys r = (tt, r)
 run_parts m (t ∷ xs) ys r = (let rest = run_parts (machine_after t) xs ys r.1 in ((r.0, rest.0), rest.1))
 
-last_joined : (m : Machine) (xs ys : List Moment) → last_of m (xs ++ ys) ≡ last_of (last_of m xs) ys
+last_joined : (m : Machine) (xs ys : List Moment) → machine_at_end m (xs ++ ys) ≡ machine_at_end (machine_at_end m xs) ys
 last_joined m [] ys = refl
 last_joined m (t ∷ xs) ys = last_joined (machine_after t) xs ys
 
@@ -139,7 +139,7 @@ known_each m run (z ∷ olds) (w ∷ news) o s l h c =
 
 -- what was shown at a moment is shown at the end
 last_from : (start : Machine) (earlier between : List Moment) (zones : List ZoneState) → AllLast start.zones zones → AllByRecursion (StaysTrue zones) (earlier ++ between)
-    → AllLast (last_of start earlier).zones zones
+    → AllLast (machine_at_end start earlier).zones zones
 last_from start [] between zones l m = l
 last_from start (t ∷ earlier) between zones l m = last_from (machine_after t) earlier between zones (m.0).shown m.1
 
@@ -221,16 +221,16 @@ followed_from : (start : Machine) (earlier between later' : List Moment) (event 
     → Continuation start (earlier ++ between)
     → Run start ((earlier ++ between) ++ Took event fails effects opened ∷ later')
     → AllByRecursion AreOctetsIn (earlier ++ between)
-    → Asks s (last_of start earlier) (last_of start (earlier ++ between))
-    → OpensFor s number (last_of start (earlier ++ between)) event opened sending
+    → Asks s (machine_at_end start earlier) (machine_at_end start (earlier ++ between))
+    → OpensFor s number (machine_at_end start (earlier ++ between)) event opened sending
     → IsGivenOut number (Some sending) later'
     → pumped_in number later' ≡ taken ++ message ∷ rest
     → copies.AllTellMore s taken fed
-    → (w : ZoneState) × (zone_named s.apex (last_of start (earlier ++ between)).zones ≡ Some w) × FollowsInOrder fed message rest (shown_of (kept_of w))
+    → (w : ZoneState) × (zone_named s.apex (machine_at_end start (earlier ++ between)).zones ≡ Some w) × FollowsInOrder fed message rest (shown_of (kept_of w))
 followed_from start earlier between later' event fails effects opened s number sending taken message rest fed sound goes run octets asks opens given messages went =
-    let now = last_of start (earlier ++ between) in
+    let now = machine_at_end start (earlier ++ between) in
     let rest_run = (run_parts start (earlier ++ between) (Took event fails effects opened ∷ later') run).1 in
-    tells (last_of start earlier) now later' event fails effects opened s number sending (last_from start earlier between now.zones goes.loaded goes.moments)
+    tells (machine_at_end start earlier) now later' event fails effects opened s number sending (last_from start earlier between now.zones goes.loaded goes.moments)
     (known_each start (earlier ++ between) start.zones now.zones octets sound goes.loaded goes.history goes.came) rest_run.0 rest_run.1 asks opens taken message rest fed given messages went
 
 before_run : (start : Machine) (earlier between later' : List Moment) (t : Moment) → Run start ((earlier ++ between) ++ t ∷ later') → Run start (earlier ++ between)

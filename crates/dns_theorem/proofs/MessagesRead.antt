@@ -24,7 +24,7 @@ use Rattle.dns_store.specs.Versions.{shown_of}
 use Rattle.dns_primary.specs.Machine.{Machine, kept_of, shown_zones, sending_at}
 use Rattle.dns_primary.specs.Step.{Arrives, Effects, Step}
 use Rattle.dns_primary.specs.Continues.{OpensOn, Continues}
-use Rattle.dns_primary.specs.Runs.{Moment, Took, Run, last_of, Continuation}
+use Rattle.dns_primary.specs.Runs.{Moment, Took, Run, machine_at_end, Continuation}
 use Rattle.dns_primary.proofs.Continued.{run_goes, step_opened}
 use Rattle.dns_primary.proofs.Stopping.{fresh_keeps, resumed_keeps}
 use Rattle.dns_theorem.specs.Copies.{SendsAll}
@@ -123,12 +123,12 @@ read_from : (start : Machine) (earlier later : List Moment) (number : ℕ) (octe
     → Run start (earlier ++ Took (Arrives number octets) fails effects opened ∷ later)
     → AllByRecursion AreOctetsIn earlier
     → AllByRecursion (λ octet. octet < 256) octets
-    → sending_at number (last_of start earlier).connections ≡ None
+    → sending_at number (machine_at_end start earlier).connections ≡ None
     → sending_at number opened.connections ≡ Some sending
     → IsGivenOut number (Some sending) later
     → ReadsAsSent sending (pumped_in number later)
 read_from start earlier later number octets fails effects opened sending sound goes run before came free opens given =
-    let now = last_of start earlier in
+    let now = machine_at_end start earlier in
     let rest_run = (run_parts start earlier (Took (Arrives number octets) fails effects opened ∷ later) run).1 in
     are_read now later number octets fails effects opened sending (known_each start earlier start.zones now.zones before sound goes.loaded goes.history goes.came) rest_run.0 rest_run.1 came free opens given
 

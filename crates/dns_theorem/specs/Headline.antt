@@ -26,7 +26,7 @@ use Rattle.dns_primary.specs.Transfer.{changes_along, zone_named}
 use Rattle.dns_primary.specs.Step.{Event, Datagram, Arrives, Connect, Flush, Checkpoint, Pump, Closed}
 use Rattle.dns_primary.specs.Step.{Effects}
 use Rattle.dns_primary.specs.Fresh.{IsFresh, IsResumed}
-use Rattle.dns_primary.specs.Runs.{Moment, Took, Stopped, Configured, Run, last_of}
+use Rattle.dns_primary.specs.Runs.{Moment, Took, Stopped, Configured, Run, machine_at_end}
 
 -- What comes in an event are octets.
 abbrev pub CarriesOctets : Event → Type 0
@@ -158,11 +158,11 @@ TransfersAreFollowed Begins =
     → Begins start
     → Run start ((earlier ++ between) ++ Took event fails effects opened ∷ later)
     → AllByRecursion AreOctetsIn (earlier ++ between)
-    → Asks s (last_of start earlier) (last_of start (earlier ++ between))
-    → OpensFor s number (last_of start (earlier ++ between)) event opened sending
+    → Asks s (machine_at_end start earlier) (machine_at_end start (earlier ++ between))
+    → OpensFor s number (machine_at_end start (earlier ++ between)) event opened sending
     → IsGivenOut number (Some sending) later
     → pumped_in number later ≡ before ++ message ∷ rest
     → copies.AllTellMore s before now
     → (w : ZoneState)
-    × (zone_named s.apex (last_of start (earlier ++ between)).zones ≡ Some w)
+    × (zone_named s.apex (machine_at_end start (earlier ++ between)).zones ≡ Some w)
     × FollowsInOrder now message rest (shown_of (kept_of w))

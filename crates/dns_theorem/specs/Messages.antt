@@ -7,7 +7,7 @@ use Rattle.dns_transfer.specs.Session.{Sending}
 use Rattle.dns_versions.specs.Each.{Each2}
 use Rattle.dns_primary.specs.Machine.{Machine, sending_at}
 use Rattle.dns_primary.specs.Step.{Arrives, Effects}
-use Rattle.dns_primary.specs.Runs.{Moment, Took, Run, last_of}
+use Rattle.dns_primary.specs.Runs.{Moment, Took, Run, machine_at_end}
 use Rattle.dns_theorem.specs.Headline.{AreOctetsIn, IsGivenOut, pumped_in}
 use Rattle.dns_theorem.specs.Lives.{Act, Life, end_of_life}
 use Rattle.dns_theorem.specs.Followed.{BeginsSoundly, IsSoundAct}
@@ -29,7 +29,7 @@ TransfersAreRead Begins =
     → Run start (earlier ++ Took (Arrives number octets) fails effects opened ∷ later)
     → AllByRecursion AreOctetsIn earlier
     → AllByRecursion (λ octet. octet < 256) octets
-    → sending_at number (last_of start earlier).connections ≡ None
+    → sending_at number (machine_at_end start earlier).connections ≡ None
     → sending_at number opened.connections ≡ Some sending
     → IsGivenOut number (Some sending) later
     → ReadsAsSent sending (pumped_in number later)
