@@ -109,57 +109,59 @@ fn reply_of_all_sections<'a, I: ZoneIndex>(
     fit(alloc, &mut whole, transport)
 }
 
-/// The reply to what a question finds, of which the shortest form is given.
+/// The reply to what a question finds, which has its question already. The shortest form is given.
 #[inline(always)]
 fn reply_of_short<'a, I: ZoneIndex>(
     alloc: Heap,
     zones: &'a [Zone<I>],
-    message: &Message<'_>,
-    question: EchoedQuestion<'a>,
+    reply: Reply<'_, 'a>,
     transport: Transport,
     found: &[Found<'a>],
     short: &Short<'a>,
 ) -> Result<Vec<u8, Heap>, AllocError>
-    requires question { length question.octets.now < 65524 }
+    requires question { length (question_octets (stated reply)) < 65524 }
     requires found { (fs : List Stated) × RepresentAll zones.now fs found.now }
+    requires bare { HasNoRecord (stated reply) }
     requires short { IfFound zones.now found.now (λ t fs. IsShortOf t fs short.now) }
     ensures { IfOk result
-        (λ octets. AreReplyTo message.now question.entry zones.now found.now transport octets.items) }
+        (λ octets. IfFound zones.now found.now
+        (λ t fs. octets.items ≡ fitted transport (with_sections (stated reply.entry) t fs))) }
 {
-    let aa = is_authoritative(found);
-    let rcode = rcode_of(found);
     match short {
-        Short::All => {
-            let bare = reply_with_question(message, question, aa, rcode, LentSections::none());
-            reply_of_all_sections(alloc, zones, bare, transport, found)
-        }
+        Short::All => reply_of_all_sections(alloc, zones, reply, transport, found),
         _ => {
             let sections = short.sections();
-            let mut reply = reply_with_question(message, question, aa, rcode, sections);
-            fit(alloc, &mut reply, transport)
+            let mut whole = Reply {
+                answer: sections.answer,
+                authority: sections.authority,
+                additional: sections.additional,
+                ..reply
+            };
+            fit(alloc, &mut whole, transport)
         }
     }
 }
 
-/// The reply to what a question finds, which is no single record. It is compiled apart, so that other queries
-/// don't pay for it.
+/// The reply to what a question finds, which has its question already, and which is no single record. It is
+/// compiled apart, so that other queries don't pay for it.
 #[inline(never)]
 fn reply_of_more<'a, I: ZoneIndex>(
     alloc: Heap,
     zones: &'a [Zone<I>],
-    message: &Message<'_>,
-    question: EchoedQuestion<'a>,
+    reply: Reply<'_, 'a>,
     transport: Transport,
     found: &[Found<'a>],
 ) -> Result<Vec<u8, Heap>, AllocError>
-    requires question { length question.octets.now < 65524 }
+    requires question { length (question_octets (stated reply)) < 65524 }
     requires found { (fs : List Stated) × RepresentAll zones.now fs found.now }
+    requires bare { HasNoRecord (stated reply) }
     ensures { IfOk result
-        (λ octets. AreReplyTo message.now question.entry zones.now found.now transport octets.items) }
+        (λ octets. IfFound zones.now found.now
+        (λ t fs. octets.items ≡ fitted transport (with_sections (stated reply.entry) t fs))) }
 {
     let short = short_reply(alloc, zones, found);
     match &short {
-        Ok(short) => reply_of_short(alloc, zones, message, question, transport, found, short),
+        Ok(short) => reply_of_short(alloc, zones, reply, transport, found, short),
         Err(AllocError) => Err(AllocError),
     }
 }
@@ -180,12 +182,19 @@ fn reply_to<'a, I: ZoneIndex>(
     ensures { IfOk result
         (λ octets. AreReplyTo message.now question.entry zones.now found.now transport octets.items) }
 {
+    let bare = reply_with_question(
+        message,
+        question,
+        is_authoritative(found),
+        rcode_of(found),
+        LentSections::none(),
+    );
     match only_record(found) {
         Some(one) => {
             let short = Short::One(one);
-            reply_of_short(alloc, zones, message, question, transport, found, &short)
+            reply_of_short(alloc, zones, bare, transport, found, &short)
         }
-        None => reply_of_more(alloc, zones, message, question, transport, found),
+        None => reply_of_more(alloc, zones, bare, transport, found),
     }
 }
 

@@ -110,7 +110,8 @@ with_transfer_step c event effects = with_transfer_of c event effects.message ef
 
 abbrev pub with_event : Counters → Event → Effects → Counters
 with_event c event effects =
-    with_transfer_step (with_message_of (with_headers c effects.headers.items) event effects.message) event effects
+    with_transfer_step (with_message_of (with_headers c effects.headers.items) event effects.message) event
+    effects
 
 -- A connection that is opened, closed, silent, stalled, or refused is counted.
 abbrev pub with_note : Counters → Note → Counters

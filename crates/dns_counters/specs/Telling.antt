@@ -3,8 +3,8 @@ use Rattle.std.specs.Prelude.{ℕ, ◌+◌, ◌==◌, ◌&&◌, nat_le, not, min
 use Rattle.std.specs.Prelude.{if◌then◌else◌}
 use Rattle.dns_counters.specs.Counters.{most}
 
--- It is time in the second `now` where they are told each so many seconds, and next from the second `next` on;
--- with each 0 seconds it never is.
+-- It is time in the second `now` where they are told each so many seconds, and next from the second `next`
+-- on; with each 0 seconds it never is.
 abbrev pub is_due : ℕ → ℕ → ℕ → Bool
 is_due now every next = not (every == 0) && nat_le next now
 

@@ -4,8 +4,8 @@ ghost use Rattle.dns_request.specs.Request.{request_of};
 ghost use Rattle.dns_request.specs.declared.request.Transport.TheVariants.{Tcp};
 ghost use Rattle.dns_primary.specs.Steps.{event_shown};
 ghost use Rattle.dns_counters.specs.Counters.{code_in, is_cut, more, more_at, no_counts, opcode_in};
-ghost use Rattle.dns_counters.specs.Counters.{count_open, with_event, with_headers, with_message_of, with_note};
-ghost use Rattle.dns_counters.specs.Counters.{with_open, with_reply, with_request, with_transfer_step};
+ghost use Rattle.dns_counters.specs.Counters.{count_open, with_event, with_headers, with_message_of};
+ghost use Rattle.dns_counters.specs.Counters.{with_note, with_open, with_reply, with_request, with_transfer_step};
 
 use dns_network::Note;
 use dns_primary::{Effects, Event, HeaderTo, Noted, Reply};

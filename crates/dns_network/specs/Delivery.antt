@@ -36,8 +36,8 @@ abbrev pub reply_to_send : Going → To × List ℕ
 reply_to_send going = (going.to, going.octets)
 
 -- A primary took the step of an event, whichever machine it kept.
-abbrev pub TakesEvent : {I D : Type 0} {i : zone_index.Ghosts I} {d : store.Ghosts D} → Primary I D i d → Event
-    → Primary I D i d → Effects → Type 0
+abbrev pub TakesEvent : {I D : Type 0} {i : zone_index.Ghosts I} {d : store.Ghosts D} → Primary I D i d
+    → Event → Primary I D i d → Effects → Type 0
 TakesEvent old event new effects = (m : Machine) → IsKept old m → SteppedBy m event old new effects
 
 -- What is stored under each number, from 0 on.

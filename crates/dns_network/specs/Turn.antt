@@ -59,7 +59,8 @@ module _ {S : Type 0} where
       ⊎ ((watched : S) × n.watches asked number stream (Some watched) last × IsPut now watched number old new)
 
 -- Whichever machine a primary kept, no reply waits for a flush.
-abbrev pub NoneWaits : {I D : Type 0} {i : zone_index.Ghosts I} {d : store.Ghosts D} → Primary I D i d → Type 0
+abbrev pub NoneWaits : {I D : Type 0} {i : zone_index.Ghosts I} {d : store.Ghosts D} → Primary I D i d
+    → Type 0
 NoneWaits primary = (m : Machine) → IsKept primary m → m.waiting ≡ []
 
 module _ {I D S N L : Type 0} {i : zone_index.Ghosts I} {d : store.Ghosts D} where

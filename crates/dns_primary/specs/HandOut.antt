@@ -14,7 +14,7 @@ use Rattle.dns_primary.specs.Machine.{Machine, ZoneState}
 use Rattle.dns_primary.specs.Step.{Event}
 use Rattle.dns_primary.specs.Steps.{SteppedBy}
 use Rattle.dns_primary.specs.Keeps.{IsKept, IsSet}
-use Rattle.dns_primary.specs.Open.{AreDevicesOf, devices_of, shape_of}
+use Rattle.dns_primary.specs.Open.{AreDevicesOf, shape_of}
 
 -- The zone has that name and these settings, and its store's sizes are within what a store may have.
 pub record IsSetAs (apex : Labels) (s : ZoneSpec) (z : ZoneState) : Type 0 where
@@ -26,18 +26,18 @@ abbrev pub AreSetAs : List Labels → List ZoneSpec → List ZoneState → Type 
 AreSetAs apexes settings zones = Each3 IsSetAs apexes settings zones
 
 -- Between two events it keeps a machine, which stops there: these are the machine's devices.
-abbrev pub HandsOutAtRest : {D I : Type 0} → (g : Ghosts D) → {i : zone_index.Ghosts I}
-    {s : kept.Ghosts (KeptStore D I g)} → Primary I (KeptStore D I g) i s → Type 0
-HandsOutAtRest g primary =
+abbrev pub LeavesAtRest : {D I : Type 0} → (g : Ghosts D) → {i : zone_index.Ghosts I}
+    {s : kept.Ghosts (KeptStore D I g)} → Primary I (KeptStore D I g) i s → List D → Type 0
+LeavesAtRest g primary devices =
     (m : Machine) (event : Event) (apexes : List Labels) (settings : List ZoneSpec)
     → IsKept primary m → AreSetAs apexes settings m.zones
-    → AreDevicesOf g 0 m event apexes settings (devices_of primary)
+    → AreDevicesOf g 0 m event apexes settings devices
 
 -- Within the event that led here, they are those of the machine from which it came.
-abbrev pub HandsOutWithin : {D I : Type 0} → (g : Ghosts D) → {i : zone_index.Ghosts I}
-    {s : kept.Ghosts (KeptStore D I g)} → Primary I (KeptStore D I g) i s → Type 0
-HandsOutWithin {D} {I} g {i} {s} primary =
+abbrev pub LeavesWithin : {D I : Type 0} → (g : Ghosts D) → {i : zone_index.Ghosts I}
+    {s : kept.Ghosts (KeptStore D I g)} → Primary I (KeptStore D I g) i s → List D → Type 0
+LeavesWithin {D} {I} g {i} {s} primary devices =
     (m : Machine) (event : Event) (before : Primary I (KeptStore D I g) i s) (effects : Effects)
     (apexes : List Labels) (settings : List ZoneSpec)
     → SteppedBy m event before primary effects → AreSetAs apexes settings m.zones
-    → AreDevicesOf g 0 m event apexes settings (devices_of primary)
+    → AreDevicesOf g 0 m event apexes settings devices

@@ -38,7 +38,8 @@ abbrev pub device_of_pending : {D I : Type 0} {g : Ghosts D} → ZoneVersions I 
 device_of_pending b = store_device b.store
 
 -- Its zones, and what backs each.
-abbrev pub zones_of : {I S : Type 0} {i : zone_index.Ghosts I} {s : kept.Ghosts S} → Primary I S i s → List Zone
+abbrev pub zones_of : {I S : Type 0} {i : zone_index.Ghosts I} {s : kept.Ghosts S} → Primary I S i s
+    → List Zone
 zones_of primary = primary.zones.items
 
 abbrev pub pending_of : {I S : Type 0} {i : zone_index.Ghosts I} {s : kept.Ghosts S} → Primary I S i s
@@ -49,8 +50,8 @@ pending_of primary = primary.pending.items
 abbrev pub count_of : {I S : Type 0} {i : zone_index.Ghosts I} {s : kept.Ghosts S} → Primary I S i s → ℕ
 count_of primary = length primary.pending.items
 
-abbrev pub devices_of : {D I : Type 0} {g : Ghosts D} {i : zone_index.Ghosts I} {s : kept.Ghosts (KeptStore D I g)}
-    → Primary I (KeptStore D I g) i s → List D
+abbrev pub devices_of : {D I : Type 0} {g : Ghosts D} {i : zone_index.Ghosts I}
+    {s : kept.Ghosts (KeptStore D I g)} → Primary I (KeptStore D I g) i s → List D
 devices_of primary = map (λ b. device_of_pending b) primary.pending.items
 
 -- A crash at any moment since then leaves what opens as a crash might have left it then, opened as often or

@@ -1,7 +1,7 @@
 //! Primaries over devices: the store of each zone is opened, and at the end all devices are handed out again.
 ghost use Rattle.std.specs.Prelude.{◌≡◌, ◌≤◌, ◌+◌, ◌++◌, length, map, vec_capacity};
 ghost use Rattle.std.specs.Prelude.{IfErr, IfOk, MatchResult};
-ghost use Rattle.dns_primary.specs.HandOut.{HandsOutAtRest, HandsOutWithin};
+ghost use Rattle.dns_primary.specs.HandOut.{LeavesAtRest, LeavesWithin};
 ghost use Rattle.dns_primary.specs.Open.{AreAllOpened, AreOpened, AreRefused, IsNotOpened, IsOpened};
 ghost use Rattle.dns_primary.specs.Open.{LeavesRecoverable, Recovers, RecoversAnew, count_of};
 ghost use Rattle.dns_primary.specs.Open.{device_of_pending, devices_of};
@@ -216,9 +216,9 @@ impl<D: Sectors + Drop, I: ZoneIndex> Primary<I, KeptStore<D, I>> {
     pub fn into_stores(self) -> Vec<ZoneVersions<I, KeptStore<D, I>>, Heap>
         ensures handed_out { map (λ b. device_of_pending b) result.items ≡ devices_of self }
         // Between two events: a machine that it keeps, which stops here.
-        ensures at_rest { HandsOutAtRest D.Sectors self }
+        ensures at_rest { LeavesAtRest D.Sectors self (devices_of self) }
         // Within the event that led here: the machine from which it came.
-        ensures within { HandsOutWithin D.Sectors self }
+        ensures within { LeavesWithin D.Sectors self (devices_of self) }
     {
         let Primary {
             zones: _,
@@ -237,8 +237,8 @@ impl<D: Sectors + Drop, I: ZoneIndex> Primary<I, KeptStore<D, I>> {
     pub fn into_devices(self, devices: &mut Vec<D, Heap>)
         requires { count_of self + length devices.old.items ≤ vec_capacity devices.old }
         ensures handed_out { devices.new.items ≡ devices_of self ++ devices.old.items }
-        ensures at_rest { HandsOutAtRest D.Sectors self }
-        ensures within { HandsOutWithin D.Sectors self }
+        ensures at_rest { LeavesAtRest D.Sectors self (devices_of self) }
+        ensures within { LeavesWithin D.Sectors self (devices_of self) }
     {
         take_back(devices, self.into_stores());
     }

@@ -1,7 +1,7 @@
 //! The way of an update: it is admitted, judged on the newest version of its zone, planned, given room,
 //! staged, and answered by the next flush.
-ghost use Rattle.std.specs.Prelude.{◌≡◌, ◌≢◌, ◌<◌, ◌++◌, ◌∷◌, [], true, false, None, Some, IfOk, length, option_map};
-ghost use Rattle.std.specs.Prelude.{slice_get};
+ghost use Rattle.std.specs.Prelude.{◌≡◌, ◌≢◌, ◌<◌, ◌++◌, ◌∷◌, [], true, false, None, Some, IfOk, length};
+ghost use Rattle.std.specs.Prelude.{option_map, slice_get};
 ghost use Rattle.dns_wire.specs.Message.{header_of};
 ghost use Rattle.dns_store.specs.Versions.{Kept};
 ghost use Rattle.dns_update.specs.Verdict.{verdict};

@@ -54,8 +54,8 @@ flush_line = codes "flush\n"
 abbrev pub places_recorded : ℕ
 places_recorded = 64
 
--- What is written of a report, and of each connection, by its number, whether it is stirred: a message came on
--- it since a pump found nothing there. A pump of one that isn't finds nothing again, unless it says so.
+-- What is written of a report, and of each connection, by its number, whether it is stirred: a message came
+-- on it since a pump found nothing there. A pump of one that isn't finds nothing again, unless it says so.
 pub record Scripted : Type 0 where
   pub text : List ℕ
   pub stirred : List Bool

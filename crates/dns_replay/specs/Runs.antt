@@ -70,20 +70,6 @@ module _ {D I : Type 0} {g : Ghosts D} {i : zone_index.Ghosts I} {s : store.Ghos
         → (led : Led) × leads from led × Appends out out_after led.text × IsAt q left led.standing
 
 module _ {D I : Type 0} {g : Ghosts D} {i : zone_index.Ghosts I} {s : store.Ghosts (KeptStore D I g)} where
-  -- Of a primary that keeps a machine, between two events, these are the devices.
-  abbrev pub LeavesAtRest : Primary I (KeptStore D I g) i s → List D → Type 0
-  LeavesAtRest p devices =
-      (m : Machine) (event : Event) (names : List Labels) (settings : List ZoneSpec)
-      → IsKept p m → AreSetAs names settings m.zones → AreDevicesOf g 0 m event names settings devices
-
-  -- Of one that stopped within an event these are the devices.
-  abbrev pub LeavesWithin : Primary I (KeptStore D I g) i s → List D → Type 0
-  LeavesWithin p devices =
-      (m : Machine) (event : Event) (before : Primary I (KeptStore D I g) i s) (effects : Effects)
-      (names : List Labels) (settings : List ZoneSpec)
-      → SteppedBy m event before p effects → AreSetAs names settings m.zones
-      → AreDevicesOf g 0 m event names settings devices
-
   -- Whatever state a script is in, these are the devices of its machine.
   abbrev pub AreTakenOf : Option (Primary I (KeptStore D I g) i s) → List D → List D → Type 0
   AreTakenOf p devices taken =

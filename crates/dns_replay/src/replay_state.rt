@@ -6,7 +6,8 @@ ghost use Rattle.dns_primary.specs.Steps.{event_shown};
 ghost use Rattle.dns_replay.specs.Commands.{said_keep, said_zone_keep};
 ghost use Rattle.dns_replay.specs.Crashes.{AreLeftBy, IsToldAs, keep_at};
 ghost use Rattle.dns_replay.specs.Runs.{AreSame, AreTakenOf, DoesIn, EventLeadsIn, IsOpeningRefused};
-ghost use Rattle.dns_replay.specs.Runs.{LeavesAtRest, LeavesWithin, OpensIn, crash_by};
+ghost use Rattle.dns_primary.specs.HandOut.{LeavesAtRest, LeavesWithin};
+ghost use Rattle.dns_replay.specs.Runs.{OpensIn, crash_by};
 
 use crate::device::ScriptDevice;
 use crate::events::happen;
@@ -261,8 +262,8 @@ fn devices_of<D: ScriptDevice, I: ZoneIndex>(
     alloc: Heap,
     primary: Primary<I, KeptStore<D, I>>,
 ) -> Result<Vec<D, Heap>, AllocError>
-    ensures at_rest { IfOk result (λ devices. LeavesAtRest primary devices.items) }
-    ensures within { IfOk result (λ devices. LeavesWithin primary devices.items) }
+    ensures at_rest { IfOk result (λ devices. LeavesAtRest D.Sectors primary devices.items) }
+    ensures within { IfOk result (λ devices. LeavesWithin D.Sectors primary devices.items) }
 {
     let mut devices = Vec::with_capacity(alloc, primary.zone_count())?;
     primary.into_devices(&mut devices);

@@ -1,4 +1,4 @@
-use Rattle.std.proofs.Common.{◌≡◌, length, map, ap, sym, ◌∙◌, arith}
+use Rattle.std.proofs.Common.{◌≡◌, length, ap, sym, ◌∙◌, arith}
 use Rattle.std.proofs.lemmas.List.{length-map}
 use Rattle.dns_primary.specs.Open.{device_of_pending}
 use Rattle.dns_primary.proofs.open.Primary+I+KeptStore+D+I.into_devices.Goals as goal
