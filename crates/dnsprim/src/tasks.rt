@@ -53,8 +53,8 @@ pub fn check_file<N: Inputs, W: Write, E: Write>(
     words: Checking<'_>,
 ) -> io::Result<u8>
     ensures { OverFile N.reads inputs.old inputs.new words.entry.file.now result
-        (λ file. WritesEnd W.contents E.contents run.old run.new
-        (CheckEnds (option_copied file.octets) file.path.now words.entry.origin.now)) }
+        (λ f. WritesEnd W.contents E.contents run.old run.new
+        (CheckEnds (option_copied f.octets) f.path.now words.entry.origin.now)) }
 {
     let text = inputs.octets(words.file)?;
     let input = file(words.file, &text);
