@@ -205,8 +205,8 @@ pub fn load_files<N: Inputs, D: Sectors + Drop, F: Devices<D>, W: Write, E: Writ
     words: Loading<'_>,
 ) -> io::Result<u8>
     ensures { OverFiles N.reads inputs.old inputs.new words.entry.config.now result
-        (λ config files status. RunEnds F.calls W.contents E.contents run.old run.new status
-        (LoadsFileBy D.Sectors words.entry config files)) }
+        (λ c files status. RunEnds F.calls W.contents E.contents run.old run.new status
+        (LoadsFileBy D.Sectors words.entry c files)) }
 {
     let text = inputs.octets(words.config)?;
     let config = file(words.config, &text);
