@@ -12,7 +12,7 @@ use Rattle.dns_answer.specs.declared.short.LentSections.{LentSections}
 use Rattle.dns_records.specs.Record.{Record}
 use Rattle.dns_request.specs.Codes.{rcode_nxdomain, rcode_refused}
 use Rattle.dns_answer.specs.Sections.{additional_of, answer_of, authority_of, is_authoritative, is_name_error, records_of}
-use Rattle.dns_answer.specs.Answer.{with_question, reply_for, answered}
+use Rattle.dns_answer.specs.Answer.{with_question, with_sections, reply_for, answered}
 
 -- something is found exactly where the name is under a held apex
 abbrev found_from : Option Zone → (Zone → Found) → (Zone → List Found) → List Found
@@ -57,3 +57,15 @@ module _ (octets : List ℕ) (m : Message) (q : Question) (fs : List Found) (b :
 
   pub whole : (answers authorities additionals : List Record) → answers ≡ records_of (answer_of q.qtype fs) → authorities ≡ records_of (authority_of fs) → additionals ≡ additional_of (answer_of q.qtype fs ++ authority_of fs) → record b { aa = aa; answer = answers; authority = authorities; additional = additionals } ≡ reply_for octets m q fs
   whole answers authorities additionals first second third = λ i. record (base i) { aa = authority i; answer = first i; authority = second i; additional = third i }
+
+-- the reply to what was found, of a reply with the question alone, lent any records
+pub replied : (octets : List ℕ) (m : Message) (q : Question) (fs : List Found) (r : Reply) (rcode : ℕ) (aa : Bool)
+    (lent : LentSections)
+    → r ≡ with_lent (with_question octets m q rcode) aa lent
+    → rcode ≡ (if is_name_error fs then rcode_nxdomain else 0)
+    → aa ≡ is_authoritative fs
+    → with_sections r q.qtype fs ≡ reply_for octets m q fs
+replied octets m q fs r rcode aa lent is code authority =
+    ap (λ (b : Reply). with_sections b q.qtype fs) is
+    ∙ whole octets m q fs (with_question octets m q rcode) rcode aa refl code authority (records_of (answer_of q.qtype fs))
+    (records_of (authority_of fs)) (additional_of (answer_of q.qtype fs ++ authority_of fs)) refl refl refl

@@ -9,7 +9,9 @@ use Rattle.dns_wire.specs.Message.{Question, Received}
 use Rattle.dns_wire.specs.declared.reply.EchoedQuestion.{EchoedQuestion}
 use Rattle.dns_wire.specs.Echo.{echo_of}
 use Rattle.dns_request.specs.declared.request.Transport.{Transport}
-use Rattle.dns_answer.specs.Answer.{fitted, reply_for}
+use Rattle.dns_wire.specs.Text.{Reply}
+use Rattle.dns_answer.specs.Answer.{fitted, reply_for, with_sections}
+use Rattle.dns_answer.specs.Found.{IfFound}
 
 pub record Echoes (message : List ℕ) (q : Question) (echo : EchoedQuestion) : Type 0 where
   pub octets_as : echo.octets.now ≡ (echo_of message q).octets
@@ -23,3 +25,8 @@ AreReplyTo m echo zones found transport octets =
     → RepresentAll zones fs found
     → AllLend zones q.qtype found
     → octets ≡ fitted transport (reply_for m.octets m.message q fs)
+
+-- The octets are this reply with the sections of what is found in the zones.
+abbrev pub AreReplyWithSections : Reply → List Zone → List Found → Transport → List ℕ → Type 0
+AreReplyWithSections reply zones found transport octets =
+    IfFound zones found (λ t fs. octets ≡ fitted transport (with_sections reply t fs))

@@ -7,8 +7,8 @@ ghost use Rattle.dns_wire.specs.Text.{question_octets};
 ghost use Rattle.dns_wire.specs.Building.{HasNoRecord};
 ghost use Rattle.dns_lookup.specs.Lookup.{Found as Stated};
 ghost use Rattle.dns_lookup.specs.Represented.{RepresentAll};
-ghost use Rattle.dns_answer.specs.Answer.{with_question, with_sections, answered, fitted};
-ghost use Rattle.dns_answer.specs.Echoes.{Echoes, AreReplyTo};
+ghost use Rattle.dns_answer.specs.Answer.{with_question, answered, fitted};
+ghost use Rattle.dns_answer.specs.Echoes.{Echoes, AreReplyTo, AreReplyWithSections};
 ghost use Rattle.dns_answer.specs.Found.{IfFound};
 ghost use Rattle.dns_answer.specs.Short.{IsShortOf, with_lent};
 
@@ -78,8 +78,7 @@ fn reply_of_all_sections<'a, I: ZoneIndex>(
     requires found { (fs : List Stated) × RepresentAll zones.now fs found.now }
     requires bare { HasNoRecord (stated reply) }
     ensures { IfOk result
-        (λ octets. IfFound zones.now found.now
-        (λ t fs. octets.items ≡ fitted transport (with_sections (stated reply.entry) t fs))) }
+        (λ octets. AreReplyWithSections (stated reply.entry) zones.now found.now transport octets.items) }
 {
     let most = most_records(transport);
     if answer_count(found) > most as usize || server_count(found) > most as usize {
@@ -124,8 +123,7 @@ fn reply_of_short<'a, I: ZoneIndex>(
     requires bare { HasNoRecord (stated reply) }
     requires short { IfFound zones.now found.now (λ t fs. IsShortOf t fs short.now) }
     ensures { IfOk result
-        (λ octets. IfFound zones.now found.now
-        (λ t fs. octets.items ≡ fitted transport (with_sections (stated reply.entry) t fs))) }
+        (λ octets. AreReplyWithSections (stated reply.entry) zones.now found.now transport octets.items) }
 {
     match short {
         Short::All => reply_of_all_sections(alloc, zones, reply, transport, found),
@@ -142,26 +140,27 @@ fn reply_of_short<'a, I: ZoneIndex>(
     }
 }
 
-/// The reply to what a question finds, which has its question already, and which is no single record. It is
-/// compiled apart, so that other queries don't pay for it.
+/// The reply to what a question finds, which is no single record. It is compiled apart, so that other queries
+/// don't pay for it.
 #[inline(never)]
 fn reply_of_more<'a, I: ZoneIndex>(
     alloc: Heap,
     zones: &'a [Zone<I>],
-    reply: Reply<'_, 'a>,
+    message: &Message<'_>,
+    question: EchoedQuestion<'a>,
     transport: Transport,
     found: &[Found<'a>],
 ) -> Result<Vec<u8, Heap>, AllocError>
-    requires question { length (question_octets (stated reply)) < 65524 }
+    requires question { length question.octets.now < 65524 }
     requires found { (fs : List Stated) × RepresentAll zones.now fs found.now }
-    requires bare { HasNoRecord (stated reply) }
     ensures { IfOk result
-        (λ octets. IfFound zones.now found.now
-        (λ t fs. octets.items ≡ fitted transport (with_sections (stated reply.entry) t fs))) }
+        (λ octets. AreReplyTo message.now question.entry zones.now found.now transport octets.items) }
 {
+    let aa = is_authoritative(found);
+    let bare = reply_with_question(message, question, aa, rcode_of(found), LentSections::none());
     let short = short_reply(alloc, zones, found);
     match &short {
-        Ok(short) => reply_of_short(alloc, zones, reply, transport, found, short),
+        Ok(short) => reply_of_short(alloc, zones, bare, transport, found, short),
         Err(AllocError) => Err(AllocError),
     }
 }
@@ -182,19 +181,19 @@ fn reply_to<'a, I: ZoneIndex>(
     ensures { IfOk result
         (λ octets. AreReplyTo message.now question.entry zones.now found.now transport octets.items) }
 {
-    let bare = reply_with_question(
-        message,
-        question,
-        is_authoritative(found),
-        rcode_of(found),
-        LentSections::none(),
-    );
     match only_record(found) {
         Some(one) => {
+            let bare = reply_with_question(
+                message,
+                question,
+                is_authoritative(found),
+                rcode_of(found),
+                LentSections::none(),
+            );
             let short = Short::One(one);
             reply_of_short(alloc, zones, bare, transport, found, &short)
         }
-        None => reply_of_more(alloc, zones, bare, transport, found),
+        None => reply_of_more(alloc, zones, message, question, transport, found),
     }
 }
 
