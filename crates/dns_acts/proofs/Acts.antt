@@ -27,7 +27,7 @@ use Rattle.dns_commands.specs.declared.next_version.Loaded.TheVariants.{Already,
 use Rattle.dns_commands.specs.Load.{IsBaseForRecords, IsLoadedInto, IsNextKept, IsSerialRaised, with_next}
 use Rattle.dns_theorem.specs.Lives.{IsFiled, IsReopenedAs, IsOpenedWith}
 use Rattle.dns_theorem.proofs.Tended.{durable_becomes, loaded_becomes, migrated_becomes, reopened_becomes}
-use Rattle.dns_acts.specs.Acts.{IsStoredAs, IsStoredOld, IsUnloaded, LeavesDumped, LeavesLoaded, LeavesLoading, LeavesMigrated, LeavesMigrating, LeavesOpening, LeavesUnloaded, LeavesZone, OpensAsZone}
+use Rattle.dns_acts.specs.Acts.{IsStoredAs, IsStoredEither, IsUnloaded, LeavesDumped, LeavesLoaded, LeavesLoading, LeavesMigrated, LeavesMigrating, LeavesOpening, LeavesUnloaded, LeavesZone, OpensAsZone}
 
 none_made : (made : List Made) → versions_of made ≡ [] → made ≡ []
 none_made [] e = refl
@@ -79,7 +79,7 @@ module _ (own : ZoneSettings) (z : ZoneState) (o : Opened) (content : Content) (
   closed = ap (λ (j : Kept). j.closed) kept
 
   so_far : o.base ≤ length o.versions
-  so_far = ((held.holds).3).so_far
+  so_far = ((held.holds).1.2.3).so_far
 
   many : length o.versions ≡ length z.shown
   many = sym (ap (λ (j : Kept). length j.shown) kept) ∙ length-map z.shown (λ (m : Made). m.records)
@@ -157,6 +157,7 @@ module _ (own : ZoneSettings) (z : ZoneState) (o : Opened) (content : Content) (
         staged = rests;
         so_far = omega (arith, base, small);
         second = second;
+        altered = inl refl;
         opened = closed;
         at_least = omega arith;
         at_most = omega arith;
@@ -166,7 +167,7 @@ module _ (own : ZoneSettings) (z : ZoneState) (o : Opened) (content : Content) (
   opening_left c (inl is) = (o, is, z, same_zone, held.opened)
   opening_left c (inr is) =
       let w = reopened_becomes z o.base (opened_again o) rests second first (subst (λ (j : Kept). IsLeftOf (moved_to o.base j) (opened_again o)) (sym kept) (
-      record { loaded = refl; kept = []; lost = []; front = refl; versions = sym (append-nil o.versions); base = inl refl; openings = refl }
+      record { loaded = refl; kept = []; lost = []; front = refl; versions = sym (append-nil o.versions); base = inl refl; openings = refl; altered = refl }
       )) in
       (opened_again o, is, w.0, w.1, w.2)
 
@@ -174,13 +175,13 @@ pub opening : {D : Type 0} (g : Ghosts D) (own : ZoneSettings) → LeavesOpening
 opening g own device c possible = (possible.0, possible.1, λ z o held. opening_left own z o possible.0 held c (possible.2 o held.holds))
 
 -- a content in one of the formats, as `migrate` and then `open` open it
-migratable : (own : ZoneSettings) (z : ZoneState) (o : Opened) (c : Content) → IsStoredAs own z o c ⊎ IsStoredOld own z o c → opens_migrated (own_shape own) o c
-migratable own z o c (inl held) = inl held.holds
+migratable : (own : ZoneSettings) (z : ZoneState) (o : Opened) (c : Content) → IsStoredEither own z o c → opens_migrated (own_shape own) o c
+migratable own z o c (inl (held, unaltered)) = inl (held.holds, unaltered)
 migratable own z o c (inr held) = inr (held.before, held.holds, held.becomes)
 
 -- the zone that is opened of that
-migrated_zone : (own : ZoneSettings) (z : ZoneState) (o : Opened) (c : Content) → IsStoredAs own z o c ⊎ IsStoredOld own z o c → (w : ZoneState) × IsOpenedWith [] z w × IsReopenedAs w o
-migrated_zone own z o c (inl held) = (z, same_zone own z o c held, held.opened)
+migrated_zone : (own : ZoneSettings) (z : ZoneState) (o : Opened) (c : Content) → IsStoredEither own z o c → (w : ZoneState) × IsOpenedWith [] z w × IsReopenedAs w o
+migrated_zone own z o c (inl (held, unaltered)) = (z, same_zone own z o c held, held.opened)
 migrated_zone own z o c (inr held) = migrated_becomes z held.before o held.opened (subst (λ (s : Shape). IsMigrated s held.before o) (sym held.shape) held.becomes)
 
 pub migrated : {D : Type 0} (g : Ghosts D) (own : ZoneSettings) → LeavesMigrated g own

@@ -37,6 +37,10 @@ pub record IsStoredOld (own : ZoneSettings) (z : ZoneState) (o : Opened) (c : Co
   pub becomes : IsMigrated (own_shape own) before o
   pub opened : IsReopenedAs z before
 
+-- The content is such a store, in one of the formats, and in format 2 with no sector altered.
+abbrev pub IsStoredEither : ZoneSettings → ZoneState → Opened → Content → Type 0
+IsStoredEither own z o c = (IsStoredAs own z o c × (o.altered ≡ [])) ⊎ IsStoredOld own z o c
+
 -- By these rules the content opens as some versions, and the zone that is opened of them has become so.
 abbrev pub OpensAsZone : (Opened → Content → Type 0) → (ZoneState → Type 0) → Content → Type 0
 OpensAsZone rules becomes c =
@@ -96,12 +100,12 @@ LeavesOpening {D} g own =
     → OpensAsZone (opens (own_shape own)) (IsOpenedWith [] z) c)
 
 -- So it is after the store was migrated that a crash might have left of the device before, in one of the
--- formats.
+-- formats, and in format 2 with no sector altered.
 abbrev pub LeavesMigrated : {D : Type 0} → Ghosts D → ZoneSettings → Type 0
 LeavesMigrated {D} g own =
     (device after : D) (answer : Migration) → TakesMigrated g (own_shape own) device after answer
     → (d : Content) × g.may_leave device d
-    × ((z : ZoneState) (o : Opened) → IsStoredAs own z o d ⊎ IsStoredOld own z o d
+    × ((z : ZoneState) (o : Opened) → IsStoredEither own z o d
     → LeavesZone g after own (IsOpenedWith [] z))
 
 -- So it is at any moment of that, where `migrate` and then `open` open what is left.
@@ -109,5 +113,5 @@ abbrev pub LeavesMigrating : {D : Type 0} → Ghosts D → ZoneSettings → Type
 LeavesMigrating {D} g own =
     (device : D) (c : Content) → MigratesAsPossible g (own_shape own) device c
     → (d : Content) × g.may_leave device d
-    × ((z : ZoneState) (o : Opened) → IsStoredAs own z o d ⊎ IsStoredOld own z o d
+    × ((z : ZoneState) (o : Opened) → IsStoredEither own z o d
     → OpensAsZone (opens_migrated (own_shape own)) (IsOpenedWith [] z) c)

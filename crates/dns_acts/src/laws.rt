@@ -13,7 +13,8 @@ use dns_sectors::Sectors;
 /// what is opened as the zone is after that act: with the records loaded, after a load that is answered with
 /// the next version; with the same versions, after a load that is answered `Already`, that is refused or that
 /// lacks memory, and after a dump or a migration; and with the one or the other, at any moment of a load,
-/// however it is cut off. While the store is opened or migrated, it is so with the same versions.
+/// however it is cut off. While the store is opened or migrated, it is so with the same versions. Of a store
+/// of format 2 that is migrated no sector was altered.
 ///
 /// That the commands do so is what `IsLoading`, `IsDumped` and `IsMigratedAs` say of them.
 pub fn commands_law<D: Sectors>()

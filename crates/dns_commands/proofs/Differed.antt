@@ -61,11 +61,11 @@ difference_kept own from to o content base newest changes r opening base_is led 
     let first : Zone = record { apex = own.origin; records = base_of o } in
     let last : Zone = record { apex = own.origin; records = newest_after o.loaded o.versions } in
     let led : AreLed (base_of o) vs changes = subst (λ (ws : Versions). AreLed (base_of o) (drop o.base ws) changes) (append-nil o.versions) led in
-    let zones : AllZones own.origin vs = zones_of Two own.origin own.snapshot_sectors (base_of o) vs (opening.0).entries (opening.3).changes in
+    let zones : AllZones own.origin vs = zones_of Two own.origin own.snapshot_sectors (base_of o) vs (opening.1.2.0).entries (opening.1.2.3).changes in
     let of : Zone → Zone → Type 0 = λ b n. AreLed b.records vs changes → AllZones b.apex vs → IsDifferenceFrom b changes n vs from to r in
     let at : of first last = subst (λ (b : Zone). of b last) base_is (subst (λ (n : Zone). of base n) newest_is (found vs)) in
     same_difference (λ serial s. IsChosenFrom first changes last vs serial s) (λ serial s. IsAnswerFor own serial s o) last from to r
-    (λ serial s is. answered own serial o changes s (opening.3).so_far led is) (at led zones)
+    (λ serial s is. answered own serial o changes s (opening.1.2.3).so_far led is) (at led zones)
 
 -- The device was looked into, with this answer or without one.
 pub diffing_ends : {D : Type 0} (g : Ghosts D) (calls : List (DeviceCall D)) (own : ZoneSettings) (from : ℕ) (to : Option ℕ) (r : Answer) → IfErr r (λ e. status_of e ≡ 3) → IsDiffed g calls own from to r → MatchResult r (HasDiff g calls own from to) (HasNoDiff g calls own from to)

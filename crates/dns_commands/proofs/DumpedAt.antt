@@ -139,11 +139,11 @@ pub answer_kept : (own : ZoneSettings) (serial : ℕ) (o : Opened) (content : Co
 answer_kept own serial o content base newest changes r opening base_is led newest_is chosen =
     let vs = drop o.base o.versions in
     let led : AreLed (base_of o) vs changes = subst (λ (ws : Versions). AreLed (base_of o) (drop o.base ws) changes) (append-nil o.versions) led in
-    let zones : AllZones own.origin vs = zones_of Two own.origin own.snapshot_sectors (base_of o) vs (opening.0).entries (opening.3).changes in
+    let zones : AllZones own.origin vs = zones_of Two own.origin own.snapshot_sectors (base_of o) vs (opening.1.2.0).entries (opening.1.2.3).changes in
     let of : Zone → Zone → Type 0 = λ b n. AreLed b.records vs changes → AllZones b.apex vs → IsChosenFrom b changes n vs serial r in
     let at : of (record { apex = own.origin; records = base_of o }) (record { apex = own.origin; records = newest_after o.loaded o.versions }) =
     subst (λ (b : Zone). of b (record { apex = own.origin; records = newest_after o.loaded o.versions })) base_is (subst (λ (n : Zone). of base n) newest_is (chosen vs)) in
-    answered own serial o changes r (opening.3).so_far led (at led zones)
+    answered own serial o changes r (opening.1.2.3).so_far led (at led zones)
 
 -- The device was looked into, with this answer or without one.
 pub picking_ends : {D : Type 0} (g : Ghosts D) (calls : List (DeviceCall D)) (own : ZoneSettings) (serial : ℕ) (r : Result (Option Zone) DeviceFault) → IfErr r (λ e. status_of e ≡ 3) → IsPicked g calls own serial r → MatchResult r (HasAnswer g calls own serial) (HasNoAnswer g calls own serial)

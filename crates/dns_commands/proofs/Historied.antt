@@ -113,7 +113,7 @@ pub history_kept : (shape : Shape) (o : Opened) (content : Content) (number base
     → base ≡ number - length changes → IsHistoryOf (history_of base serial changes) o
 history_kept shape o content number base serial first newest kept changes opening number_is led newest_is first_in is_first changes_are serial_is base_is =
     let led : AreLed (base_of o) (drop o.base o.versions) kept = subst (λ (vs : Versions). AreLed (base_of o) (drop o.base vs) kept) (append-nil o.versions) led in
-    let so_far = (opening.3).so_far in
+    let so_far = (opening.1.2.3).so_far in
     let len : length kept ≡ length o.versions - o.base = led_length (base_of o) (drop o.base o.versions) kept led ∙ length-drop o.base o.versions in
     let left : length changes ≡ length kept - first = ap length changes_are ∙ length-drop first kept in
     let at : base ≡ o.base + first = omega (arith, base_is, number_is, len, left, so_far, first_in) in

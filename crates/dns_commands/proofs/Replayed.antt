@@ -64,6 +64,7 @@ fresh_zones files (s ∷ ss) (p ∷ ps) (z ∷ zs) (m ∷ ms) h k e = (
     base = e.0.base;
     second = e.0.second;
     openings = e.0.openings;
+    altered = e.0.altered;
     opened = e.0.opened;
   },
   fresh_zones files ss ps zs ms h.1 k.1 e.1,
@@ -90,6 +91,7 @@ begun_zones files (s ∷ ss) (p ∷ ps) (z ∷ zs) (m ∷ ms) h k e = (
     base = e.0.base;
     second = e.0.second;
     openings = e.0.openings;
+    altered = e.0.altered;
     opened = e.0.opened;
   },
   begun_zones files ss ps zs ms h.1 k.1 e.1,

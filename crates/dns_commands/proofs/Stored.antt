@@ -35,6 +35,7 @@ left_staged opens k records c none (o, left, is) = (
     versions = left.versions ∙ ap (λ (vs : Versions). k.shown ++ vs) (none_before left.kept left.lost (sym none ∙ left.front));
     base = left.base;
     openings = left.openings;
+    altered = left.altered;
   },
   is,
 )

@@ -14,9 +14,10 @@ use Rattle.dns_changes.specs.Version.{serial_in}
 use Rattle.dns_sectors.specs.Device.{Content}
 use Rattle.dns_layout.specs.Own.{IsIntactIn}
 use Rattle.dns_journal.specs.Reads.{HasRisen, OnlyReads}
+use Rattle.dns_journal.specs.State.{IsOpenedTimes}
 use Rattle.dns_journal.proofs.Looking.{reads_then}
 use Rattle.dns_sectors.specs.declared.device.Sectors.{Ghosts}
-use Rattle.dns_layout.specs.Sector.{number, open_count, sector_at}
+use Rattle.dns_layout.specs.Sector.{number, sector_at}
 use Rattle.dns_layout.specs.Journal.{Entry, entry_size, place_behind}
 use Rattle.dns_layout.specs.Store.{Stored, journal_place}
 use Rattle.dns_layout.specs.declared.root.Root.{Root}
@@ -27,11 +28,11 @@ use Rattle.dns_store.specs.declared.root.OpenError.TheVariants.{Device, OutOfMem
 use Rattle.dns_store.specs.Damage.{NamesAltered, NamesWrong}
 use Rattle.dns_store.specs.Root.{OpenRefusal}
 use Rattle.dns_store.specs.Opening.{IsNotReopened, IsRead, RefusesAltered}
-use Rattle.dns_store.specs.Opens.{AreChanges, base_of, fresh, opens, sizes_of}
+use Rattle.dns_store.specs.Opens.{AreChanges, IsPartOf, base_of, fresh, sizes_of}
 use Rattle.dns_store.specs.Room.{entries_along, entry_between, sectors_left}
 use Rattle.dns_store.specs.Staged.{entry_is}
 use Rattle.dns_store.specs.Versions.{Opened, Shape, Versions, newest_after}
-use Rattle.dns_store.proofs.Entering.{newest_number, none_altered}
+use Rattle.dns_store.proofs.Entering.{newest_number}
 use Rattle.dns_store.proofs.Moving.{led_count}
 use Rattle.dns_store.proofs.Places.{along_drop}
 use Rattle.dns_configuration.specs.declared.configuration.ZoneSettings.{ZoneSettings}
@@ -69,15 +70,14 @@ left_read shape o c s root end base newest changes are read =
     omega (arith, read.until_is, read.at_is, sum, along)
 
 -- The figures of what was read are those of what the content opens as.
-pub figures_read : (shape : Shape) (o : Opened) (c : Content) (root : Root) (end : Cursor) (base newest : List Record) (changes : List Change) (figures : Figures) (is : opens shape o c) → IsRead (sizes_of shape) c o is.0 root end base changes newest → figures.version ≡ end.version → figures.serial ≡ serial_in (soas newest) → figures.records ≡ length newest → figures.entries ≡ length changes → figures.sectors_left ≡ end.until - end.at → figures.openings ≡ root.open_count → figures ≡ figures_of shape o
-figures_read shape o c root end base newest changes figures is read version serial records entries left openings =
-    let s = is.0 in
-    let v : figures.version ≡ length o.versions = version ∙ read.version_is ∙ newest_number shape o s is.3 in
+pub figures_read : (shape : Shape) (o : Opened) (c : Content) (root : Root) (end : Cursor) (base newest : List Record) (changes : List Change) (figures : Figures) (s : Stored) → IsPartOf shape o s → IsOpenedTimes o.openings c → IsRead (sizes_of shape) c o s root end base changes newest → figures.version ≡ end.version → figures.serial ≡ serial_in (soas newest) → figures.records ≡ length newest → figures.entries ≡ length changes → figures.sectors_left ≡ end.until - end.at → figures.openings ≡ root.open_count → figures ≡ figures_of shape o
+figures_read shape o c root end base newest changes figures s part times read version serial records entries left openings =
+    let v : figures.version ≡ length o.versions = version ∙ read.version_is ∙ newest_number shape o s part in
     let m : figures.serial ≡ serial_in (soas (newest_after o.loaded o.versions)) = serial ∙ ap (λ (rs : List Record). serial_in (soas rs)) read.newest_is in
     let n : figures.records ≡ length (newest_after o.loaded o.versions) = records ∙ ap (λ (rs : List Record). length rs) read.newest_is in
     let e : figures.entries ≡ length o.versions - o.base = entries ∙ led_count (base_of o) (drop o.base o.versions) changes read.led ∙ length-drop o.base o.versions in
-    let l : figures.sectors_left ≡ sectors_left (fresh shape o) = left ∙ left_read shape o c s root end base newest changes is.3.changes read in
-    let p : figures.openings ≡ o.openings = openings ∙ sym read.says.opened_is ∙ is.4 in
+    let l : figures.sectors_left ≡ sectors_left (fresh shape o) = left ∙ left_read shape o c s root end base newest changes part.changes read in
+    let p : figures.openings ≡ o.openings = openings ∙ sym read.says.opened_is ∙ times in
     λ i. record { version = v i; serial = m i; records = n i; entries = e i; sectors_left = l i; openings = p i }
 
 -- ---- zones one after another
@@ -105,12 +105,9 @@ worst_more (f ∷ findings) finding = omega (arith, worst_more findings finding)
 -- ---- why a store is refused
 
 -- How often the store was opened is what its root says.
-pub refused_as : (shape : Shape) (o : Opened) (before now : Content) (error : OpenError) (is : opens shape o before) → RefusesAltered Two before now error → IsNotReopened o.openings error ⊎ NamesAltered before now error
-refused_as shape o before now error is why = subst (λ n. IsNotReopened n error ⊎ NamesAltered before now error) is.4 why
-
--- One that opens and was not altered.
-pub not_reopened : (shape : Shape) (o : Opened) (c : Content) (error : OpenError) (is : opens shape o c) → RefusesAltered Two c c error → IsNotReopened o.openings error
-not_reopened shape o c error is why = subst (λ n. IsNotReopened n error) is.4 (none_altered Two (open_count (sector_at c 0)) c error why)
+pub refused_as : (shape : Shape) (o : Opened) (before now : Content) (error : OpenError) → IsOpenedTimes o.openings before → RefusesAltered Two shape before now error → IsNotReopened o.openings error ⊎ NamesAltered before now error
+refused_as shape o before now error times (inl stopped) = inl (subst (λ n. IsNotReopened n error) times stopped)
+refused_as shape o before now error times (inr (named, used)) = inr named
 
 -- ---- which sectors are spoilt
 
@@ -137,20 +134,20 @@ pub untested : {D : Type 0} (g : Ghosts D) (own : ZoneSettings) (old mid new : D
 untested g own old mid new error first quiet then failed (inl is) = record {
   read_only = reads_then old mid new first then;
   failed = λ e. subst (λ n. HasRisen n (g.failed new)) quiet (failed e);
-  stopped = λ honest range o opens. inl is;
+  stopped = λ honest range o opens. inl (inl is);
   refused = λ honest. subst (λ e. OpenRefusal (sizes_of (own_shape own)) (g.count old) (sector_at (g.seen old) 0) e) (sym is) tt;
   damaged = λ honest. subst (λ e. NamesWrong (own_shape own) (g.seen old) e) (sym is) tt;
   not_own = λ honest range position read spoilt. inl is;
-  altered = λ honest range c o opens altered. inl (inl is);
+  altered = λ honest range c o opens none altered. inl (inl is);
 }
 untested g own old mid new error first quiet then failed (inr is) = record {
   read_only = reads_then old mid new first then;
   failed = λ e. absurd (let both : Device ≡ OutOfMemory = sym e ∙ is in cc);
-  stopped = λ honest range o opens. inr (inl is);
+  stopped = λ honest range o opens. inl (inr (inl is));
   refused = λ honest. subst (λ e. OpenRefusal (sizes_of (own_shape own)) (g.count old) (sector_at (g.seen old) 0) e) (sym is) tt;
   damaged = λ honest. subst (λ e. NamesWrong (own_shape own) (g.seen old) e) (sym is) tt;
   not_own = λ honest range position read spoilt. inr (inl is);
-  altered = λ honest range c o opens altered. inl (inr (inl is));
+  altered = λ honest range c o opens none altered. inl (inr (inl is));
 }
 
 -- ---- what is told

@@ -33,8 +33,8 @@ use Rattle.dns_replay.specs.Crashes.{IsCrash}
 use Rattle.dns_replay.specs.Scripts.{Crash, Led, Runs, Takes}
 use Rattle.dns_commands.specs.CheckConfiguration.{HasSectors, IsFirstTooLarge}
 
--- A zone as it was loaded, with what is configured of it: no update was accepted, and its store was opened
--- once.
+-- A zone as it was loaded, with what is configured of it: no update was accepted, its store was opened once,
+-- and no sector of it was altered.
 pub record IsFreshZone (settings : ZoneSettings) (zone : Zone) (z : ZoneState) : Type 0 where
   pub shape : z.setting.shape
       ≡ record { apex = zone.apex; snapshot = settings.snapshot_sectors; journal = settings.journal_sectors }
@@ -47,6 +47,7 @@ pub record IsFreshZone (settings : ZoneSettings) (zone : Zone) (z : ZoneState) :
   pub base : z.base ≡ 0
   pub second : z.second ≡ None
   pub openings : z.openings ≡ 1
+  pub altered : z.altered ≡ []
   pub opened : z.closed ≡ false
 
 -- The machine of these zones, to which nothing has happened.

@@ -18,7 +18,7 @@ use Rattle.dns_journal.specs.Reads.{HasRisen, OnlyReads}
 use Rattle.dns_store.specs.declared.root.OpenError.{OpenError}
 use Rattle.dns_store.specs.declared.root.OpenError.TheVariants.{Device}
 use Rattle.dns_store.specs.Damage.{NamesAltered, NamesSector, NamesWrong}
-use Rattle.dns_store.specs.Opening.{IsInRange, IsNotReopened}
+use Rattle.dns_store.specs.Opening.{IsInRange, IsNotOpenedAs, IsNotReopened}
 use Rattle.dns_store.specs.Opens.{fresh, opens, sizes_of}
 use Rattle.dns_store.specs.Room.{sectors_left}
 use Rattle.dns_store.specs.Root.{OpenRefusal}
@@ -82,8 +82,9 @@ pub record IsWell {D : Type 0} (g : Ghosts D) (every : Bool) (own : ZoneSettings
   pub quiet : g.failed after ≡ g.failed device
 
 -- The device was only read, and this is why its store is refused: if it opens, the device failed, memory was
--- refused, or it was opened too often; else the reason is in what is stored on it. A sector that is neither
--- zeros nor its own is named if reading reaches it, and if some were altered, one of them.
+-- refused, it was opened too often, or a sector in use was altered, and is named; else the reason is in what
+-- is stored on it. A sector that is neither zeros nor its own is named if reading reaches it, and if some
+-- were altered, one of them.
 pub record IsUnwell {D : Type 0} (g : Ghosts D) (own : ZoneSettings) (device back : D) (error : OpenError)
     : Type 0 where
   pub read_only : OnlyReads g device back
@@ -91,7 +92,7 @@ pub record IsUnwell {D : Type 0} (g : Ghosts D) (own : ZoneSettings) (device bac
   pub stopped : g.is_honest device
       → IsInRange own.snapshot_sectors own.journal_sectors
       → (o : Opened) → opens (own_shape own) o (g.seen device)
-      → IsNotReopened o.openings error
+      → IsNotOpenedAs (own_shape own) o (g.seen device) error
   pub refused : g.is_honest device
       → OpenRefusal (sizes_of (own_shape own)) (g.count device) (sector_at (g.seen device) 0) error
   pub damaged : g.is_honest device → NamesWrong (own_shape own) (g.seen device) error

@@ -90,9 +90,10 @@ pub record IsDumped {D : Type 0} (g : Ghosts D) (calls : List (DeviceCall D)) (o
       → LeavesOnly g.moment g.left_since device after (OpensAsPossible g (own_shape own) device)
 
 -- Why the device shows none: if each crash leaves a store that opens, the device failed, memory was refused,
--- or it was opened too often; else the reason is in what is stored on it. A sector that is neither zeros nor
--- its own is named where reading reaches it, and where some were altered, one of them. It was only read,
--- unless it failed, and closed; and a crash at any moment leaves what opens as one might have left it before.
+-- it was opened too often, or a sector in use was altered, and is named; else the reason is in what is stored
+-- on it. A sector that is neither zeros nor its own is named where reading reaches it, and where some were
+-- altered, one of them. It was only read, unless it failed, and closed; and a crash at any moment leaves what
+-- opens as one might have left it before.
 pub record CannotBeOpened {D : Type 0} (g : Ghosts D) (calls : List (DeviceCall D)) (own : ZoneSettings)
     (fault : DeviceFault) : Type 0 where
   pub device : D

@@ -9,7 +9,7 @@ use Rattle.dns_sectors.specs.Phase.{pairs, zeros_from}
 use Rattle.dns_sectors.specs.declared.phase.SectorWrite.{SectorWrite}
 use Rattle.dns_layout.specs.Sector.{sector_at, blank, tag, head_tag, head_tag_in, open_count, number, snapshot_length, snapshot_sectors, clear}
 use Rattle.dns_layout.specs.Forms.{SaysRoot, SaysRootIn, bank_number, clear_number}
-use Rattle.dns_layout.specs.Own.{Own, IsIntactIn, AreOwn}
+use Rattle.dns_layout.specs.Own.{Own, IsIntactIn, AreOwn, Altered}
 use Rattle.dns_layout.specs.Journal.{IsBatch, IsNextHead, Stand, place_behind, writes_from}
 use Rattle.dns_layout.specs.Store.{Sizes, Stored, IsRoot, AreParts, OpensBy, OpensByIn, OpensAs, IsTidy, IsLeftOver, all_sectors, snapshot_place, journal_place, bank_end, other_of, version_of}
 use Rattle.dns_layout.specs.declared.format.Format.TheVariants.{One, Two}
@@ -19,7 +19,7 @@ use Rattle.dns_changes.specs.Change.{Change}
 use Rattle.dns_journal.specs.declared.read.Cursor.{Cursor}
 use Rattle.dns_journal.specs.declared.conversion.Places.{Places}
 use Rattle.dns_journal.specs.Bank.{sectors_of_entries, LaysBank, IsTurned}
-use Rattle.dns_journal.specs.Clearing.{IsToClear}
+use Rattle.dns_journal.specs.Clearing.{IsToClear, IsCleared, OpensStill}
 use Rattle.dns_journal.specs.Converting.{bank_writes, LeavesConverted, OpensCleared}
 use Rattle.dns_journal.proofs.Places.{at_set-other, some-length, all_are_some, applied-append}
 use Rattle.dns_journal.proofs.Altered.{same_or_not}
@@ -27,6 +27,7 @@ use Rattle.dns_journal.proofs.Batch.{WritesBehind}
 use Rattle.dns_journal.proofs.Between.{AllBetween, between_append, between_from, zeros_between, which_bank, bank_inside}
 use Rattle.dns_journal.proofs.Standing.{sectors_within}
 use Rattle.dns_journal.proofs.Zeroed.{tidy_of, root_no_head, blank_no_head}
+use Rattle.dns_journal.proofs.Same.{opens_but}
 use Rattle.dns_journal.proofs.Encoded.{held, zeros_held}
 use Rattle.dns_journal.proofs.Turning.{parts_behind, sectors_behind}
 use Rattle.dns_journal.proofs.Laying.{sectors_place}
@@ -150,6 +151,10 @@ module _ (r : Root) (bank opened base : ℕ) (octets : List ℕ) (changes : List
     whole_is = λ i. (front_is i ++ zeros_from (places.first i + parts_len i) (places.journal i - (places.first i + parts_len i)))
         ++ (back_is i ++ zeros_from (places.journal i + entries_len i) (places.until i - (places.journal i + entries_len i)))
 
+-- what is stored, with no altered sectors: of format 1 none can be told
+abbrev pub intact : Stored → Stored
+intact k = record k { altered = [] }
+
 -- What the steps of a conversion leave of the content d: all of the writes, the root y, and the root z after the old bank is cleared.
 pub record Steps (s : Sizes) (k : Stored) (octets : List ℕ) (changes : List Change) (opened : ℕ) (d : Content) (all : List Write) (y z : List ℕ) (from until : ℕ) : Type 1 where
   pub new : Stored
@@ -157,7 +162,7 @@ pub record Steps (s : Sizes) (k : Stored) (octets : List ℕ) (changes : List Ch
   pub turned : IsTurned k octets changes new
   pub first : (may_leave : Content → Type 0) → Only d may_leave → (c : Content) → CrashOf may_leave all c → LeavesConverted s k octets changes opened c
   pub second : (mid : Content) (may_leave : Content → Type 0) → mid ≡ after_writes all d → Only mid may_leave → (c : Content) → CrashOf may_leave ((0, y) ∷ []) c → LeavesConverted s k octets changes opened c
-  pub to_clear : (mid after : Content) → mid ≡ after_writes all d → after ≡ slice_set mid 0 y → IsToClear s new y parts from until z after
+  pub to_clear : (mid after : Content) → mid ≡ after_writes all d → after ≡ slice_set mid 0 y → IsToClear s (intact new) y parts from until z after
   pub cleared : clear z ≡ 1
   pub counted : open_count z ≡ opened + 1
 
@@ -201,10 +206,10 @@ module _ (s : Sizes) (k : Stored) (d : Content) (x : List ℕ) (parts : List (Li
   high_is = λ i. middle_is i + journal_is i
 
   abbrev stored : Stored
-  stored = record { base = base; snapshot = octets; entries = lays.entries }
+  stored = record { base = base; snapshot = octets; entries = lays.entries; altered = k.altered }
 
   is_turned : IsTurned k octets changes stored
-  is_turned = record { base = base_is; snapshot = refl; entries = lays.are }
+  is_turned = record { base = base_is; snapshot = refl; entries = lays.are; altered = refl }
 
   abbrev part_writes : List Write
   part_writes = writes_from low xs
@@ -357,9 +362,9 @@ module _ (s : Sizes) (k : Stored) (d : Content) (x : List ℕ) (parts : List (Li
         old_end : bank_end (rooms_of r) (bank_number r.bank) ≡ bank_end s (other_of (number y))
         old_end = λ i. old_first i + snapshot_is i + journal_is i
 
-        to_clear : IsToClear s stored y xs old.first old.until z (slice_set after 0 y)
+        to_clear : IsToClear s (intact stored) y xs old.first old.until z (slice_set after 0 y)
         to_clear = record {
-          opens = opens_now;
+          opens = opens_but Two s stored (slice_set after 0 y) y xs opens_now [];
           tidy = tidy_now;
           not_clear = not_clear;
           from_is = old_is.first ∙ old_first;
@@ -392,7 +397,8 @@ module _ (s : Sizes) (k : Stored) (d : Content) (x : List ℕ) (parts : List (Li
                   let there = sym (now ∙ ap (λ (b : Content). slice_set b 0 y) (only left.0 left.1 ∙ is)) in
                   inr (stored, is_turned, subst (λ (b : Content). OpensAs s b stored) there (y, xs, opens_now), subst (λ (b : Content). IsTidy s b) there tidy_now, ap (λ (b : Content). open_count (sector_at b 0)) (sym there) ∙ (ap open_count opens_now.stands ∙ y_says.opened_is)))
                   left.2;
-              to_clear = λ mid now written is. subst (λ (b : Content). IsToClear s stored y xs old.first old.until z b) (sym (is ∙ ap (λ (b : Content). slice_set b 0 y) (written ∙ ap (λ (l : List Write). after_writes l d) all_is))) to_clear;
+              to_clear = λ mid now written is. subst (λ (b : Content). IsToClear s (intact stored) y xs old.first old.until z b)
+                  (sym (is ∙ ap (λ (b : Content). slice_set b 0 y) (written ∙ ap (λ (l : List Write). after_writes l d) all_is))) to_clear;
               cleared = z_says.clear_is;
               counted = z_says.opened_is;
             }
@@ -403,12 +409,24 @@ are_places r p bank m bank_is first journal until =
     let start : p.journal ≡ journal_place (rooms_of r) m = journal ∙ ap (λ n. n + r.snapshot_room) at in
     record { first = at; journal = start; until = until ∙ ap (λ n. n + r.journal_room) start }
 
-pub opens_cleared : (s : Sizes) (new : Stored) (z : List ℕ) (parts : List (List ℕ)) (opened : ℕ) (after c : Content) → OpensBy s after z parts new × IsTidy s after → clear z ≡ 1 → open_count z ≡ opened → c ≡ after → OpensCleared s new opened c
-opens_cleared s new z parts opened after c left cleared counted is =
-    subst (λ (b : Content). OpensCleared s new opened b) (sym is)
+opens_new : (s : Sizes) (new : Stored) (c : Content) (z : List ℕ) (parts : List (List ℕ)) → OpensBy s c z parts (intact new) → OpensBy s c z parts new
+opens_new s new c z parts opens = opens_but Two s (intact new) c z parts opens new.altered
+
+-- while the old bank is cleared
+pub still_converted : (s : Sizes) (k new : Stored) (octets : List ℕ) (changes : List Change) (opened : ℕ) (y z : List ℕ) (c : Content)
+    → IsTurned k octets changes new → open_count y ≡ opened + 1 → open_count z ≡ opened + 1
+    → OpensStill s (intact new) y z c → LeavesConverted s k octets changes opened c
+still_converted s k new octets changes opened y z c turned y_is z_is (d, is, (opens, tidy, times)) =
+    subst (λ (b : Content). LeavesConverted s k octets changes opened b) (sym is)
+    (inr (new, turned, (opens.0, opens.1, opens_new s new d opens.0 opens.1 opens.2), tidy, ⊎_elim (λ now. now ∙ y_is) (λ then. then ∙ z_is) times))
+
+pub opens_cleared : (s : Sizes) (new : Stored) (y z : List ℕ) (parts : List (List ℕ)) (opened : ℕ) (seen c : Content)
+    → Altered [] (IsCleared s (intact new) y parts z) seen → clear z ≡ 1 → open_count z ≡ opened → c ≡ seen → OpensCleared s new opened c
+opens_cleared s new y z parts opened seen c (d, same, left) cleared counted is =
+    subst (λ (b : Content). OpensCleared s new opened b) (sym (is ∙ same))
     (record {
-      opens = (z, parts, left.0);
-      tidy = left.1;
-      cleared = ap clear left.0.stands ∙ cleared;
-      counted = ap open_count left.0.stands ∙ counted;
+      opens = (z, parts, opens_new s new d z parts left.opens);
+      tidy = left.tidy;
+      cleared = ap clear left.opens.stands ∙ cleared;
+      counted = ap open_count left.opens.stands ∙ counted;
     })

@@ -2,6 +2,7 @@
 use Rattle.std.proofs.Common.{◌≡◌, ℕ, ◌+◌, ◌≤◌, ◌<◌, List, [], ◌∷◌, length, take, drop, sym, ◌∙◌, ap, subst, arith}
 use Rattle.std.specs.List.{flat_map}
 use Rattle.dns_sectors.specs.Device.{Content}
+use Rattle.dns_sectors.specs.Crash.{Write}
 use Rattle.dns_layout.specs.Sector.{sector_at, open_count, sequence_number, number, payload_in, bank_open, AreZeros, snapshot_sectors_in}
 use Rattle.dns_layout.specs.Own.{IsIntactIn}
 use Rattle.dns_layout.specs.Journal.{Entry, entry_size, IsNextHeadIn, ReadsIn, Stand}
@@ -55,3 +56,19 @@ module _ (f : Format) where
               (reads_same k.entries (bank_end s (number root)) (journal_place s (number root)) k.base (bank_open root) c d (λ q from lt. same q (omega (arith, from)) lt) opens.journal));
           own = own;
         }
+
+    -- which sectors were altered doesn't matter
+    pub opens_but : (ws : List Write) → OpensByIn f s d root parts (record k { altered = ws })
+    opens_but ws = record {
+      size = opens.size;
+      stands = opens.stands;
+      valid = opens.valid;
+      base = opens.base;
+      count = opens.count;
+      expected = opens.expected;
+      placed = opens.placed;
+      snapshot = opens.snapshot;
+      zeros = opens.zeros;
+      journal = opens.journal;
+      own = opens.own;
+    }

@@ -2,7 +2,7 @@
 use Rattle.std.proofs.Common.{◌≡◌, ℕ, ◌+◌, List, [], ◌∷◌, ◌++◌, refl, sym, ◌∙◌, ap, subst, append_assoc}
 use Rattle.std.proofs.lemmas.List.{append-nil}
 use Rattle.std.specs.Prelude.{Result, Ok, Err, OnErr}
-use Rattle.dns_sectors.specs.Crash.{Write}
+use Rattle.dns_sectors.specs.Crash.{Write, SomeApplied}
 use Rattle.dns_sectors.specs.Phase.{pairs}
 use Rattle.dns_sectors.specs.declared.device.Sectors.{Ghosts}
 use Rattle.dns_layout.specs.Sector.{open_count, number}
@@ -10,9 +10,9 @@ use Rattle.dns_layout.specs.Forms.{SaysRoot}
 use Rattle.dns_layout.specs.Own.{AreOwn}
 use Rattle.dns_layout.specs.declared.root.Root.{Root}
 use Rattle.dns_journal.proofs.Altered.{own_append}
-use Rattle.dns_layout.specs.Journal.{Entry, entry_size, IsNextEntry, IsBatch, writes_from, body_writes, head_writes, place_behind, version_behind, AllBehind}
+use Rattle.dns_layout.specs.Journal.{Entry, entry_size, IsNextEntry, IsBatch, writes_from, body_writes, head_writes, place_behind, version_behind}
 use Rattle.dns_journal.specs.declared.read.Cursor.{Cursor}
-use Rattle.dns_layout.specs.Store.{Sizes, Stored, OpensBy, journal_place, bank_end, version_of}
+use Rattle.dns_layout.specs.Store.{Sizes, Stored, journal_place, bank_end, version_of}
 use Rattle.dns_journal.specs.State.{Keeps}
 use Rattle.dns_journal.specs.Staging.{Stages}
 use Rattle.dns_journal.specs.declared.journal.Journal.{Journal}
@@ -64,13 +64,15 @@ module _ {D : Type 0} {g : Ghosts D} (shape : Sizes) (old new : Journal D g) (k 
           is_open = closed ∙ keeps.2.is_open;
           honest = subst (λ d. g.is_honest d) (sym device) keeps.2.honest;
           durable = subst (λ d. (c : List (List ℕ)) → g.may_leave d c → c ≡ g.seen d) (sym device) keeps.2.durable;
-          opens = subst (λ d. OpensBy shape (g.seen d) root keeps.1 k) (sym device) keeps.2.opens;
+          content = keeps.2.content;
+          altered = subst (λ d. SomeApplied k.altered keeps.2.content (g.seen d)) (sym device) keeps.2.altered;
+          opens = keeps.2.opens;
           says = subst (λ r. SaysRoot root r) (sym same_root) keeps.2.says;
           cleared = ap (λ (r : Root). r.is_clear) same_root ∙ keeps.2.cleared;
           bodies_own = subst (λ (ws : List Write). AreOwn ws) (sym stages.bodies_are) (own_append (pairs old.bodies.items) (writes_from (old.next.at + 1) e.bodies) keeps.2.bodies_own stages.bodies_own);
           heads_own = subst (λ (ws : List Write). AreOwn ws) (sym stages.heads_are) (own_append (pairs old.heads.items) ((old.next.at, e.head) ∷ []) keeps.2.heads_own ((λ _. stages.head_own), tt));
           bank = keeps.2.bank;
-          behind = subst (λ d. AllBehind (open_count root) (version_of k) (g.seen d)) (sym device) keeps.2.behind;
+          behind = keeps.2.behind;
           batch = batch_more staged e (bank_end shape (number root)) first (version_of k) (open_count root) keeps.2.batch next (stages.opened ∙ keeps.2.opened_is);
           bodies = stages.bodies_are ∙ ap (λ (ws : List Write). ws ++ writes_from (old.next.at + 1) e.bodies) keeps.2.bodies ∙ ap (λ n. body_writes first staged ++ writes_from (n + 1) e.bodies) keeps.2.at_is ∙ sym (bodies_more staged e first);
           until_is = stages.until_stays ∙ keeps.2.until_is;
@@ -90,13 +92,15 @@ module _ {D : Type 0} {g : Ghosts D} (shape : Sizes) (old new : Journal D g) (k 
       is_open = closed ∙ keeps.2.is_open;
       honest = subst (λ d. g.is_honest d) (sym device) keeps.2.honest;
       durable = subst (λ d. (c : List (List ℕ)) → g.may_leave d c → c ≡ g.seen d) (sym device) keeps.2.durable;
-      opens = subst (λ d. OpensBy shape (g.seen d) root keeps.1 k) (sym device) keeps.2.opens;
+      content = keeps.2.content;
+      altered = subst (λ d. SomeApplied k.altered keeps.2.content (g.seen d)) (sym device) keeps.2.altered;
+      opens = keeps.2.opens;
       says = subst (λ r. SaysRoot root r) (sym same_root) keeps.2.says;
       cleared = ap (λ (r : Root). r.is_clear) same_root ∙ keeps.2.cleared;
       bodies_own = subst (λ (ws : List Write). AreOwn ws) (sym (ap pairs bodies)) keeps.2.bodies_own;
       heads_own = subst (λ (ws : List Write). AreOwn ws) (sym (ap pairs heads)) keeps.2.heads_own;
       bank = keeps.2.bank;
-      behind = subst (λ d. AllBehind (open_count root) (version_of k) (g.seen d)) (sym device) keeps.2.behind;
+      behind = keeps.2.behind;
       batch = keeps.2.batch;
       bodies = ap pairs bodies ∙ keeps.2.bodies;
       until_is = ap (λ (n : Cursor). n.until) same ∙ keeps.2.until_is;

@@ -1,5 +1,5 @@
 -- What a journal keeps when the root was turned, from what it kept.
-use Rattle.std.proofs.Common.{◌≡◌, ◌⊎◌, inl, inr, ℕ, ◌+◌, ◌*◌, ◌≤◌, false, List, [], ◌++◌, length, refl, sym, ◌∙◌, ap, subst, arith}
+use Rattle.std.proofs.Common.{◌≡◌, inl, inr, ℕ, ◌+◌, ◌*◌, ◌≤◌, false, List, [], ◌++◌, length, refl, sym, ◌∙◌, ap, subst, arith}
 use Rattle.dns_sectors.specs.Device.{Content, Only}
 use Rattle.dns_sectors.specs.Crash.{Write}
 use Rattle.dns_sectors.specs.Phase.{pairs}
@@ -7,14 +7,14 @@ use Rattle.dns_sectors.specs.declared.device.Sectors.{Ghosts}
 use Rattle.dns_layout.specs.Sector.{open_count, number, snapshot_sectors}
 use Rattle.dns_layout.specs.Forms.{SaysRoot, bank_number, clear_number}
 use Rattle.dns_layout.specs.Journal.{IsBatch, writes_from, place_behind}
-use Rattle.dns_layout.specs.Store.{Sizes, Stored, OpensAs, IsTidy, snapshot_place, journal_place, bank_end, version_of, other_of}
-use Rattle.dns_layout.specs.Own.{AreOwn}
+use Rattle.dns_layout.specs.Store.{Sizes, Stored, snapshot_place, journal_place, bank_end, version_of, other_of}
+use Rattle.dns_layout.specs.Own.{AreOwn, Altered}
 use Rattle.dns_layout.specs.declared.root.Root.{Root}
 use Rattle.dns_layout.specs.declared.root.Bank.{Bank}
 use Rattle.dns_changes.specs.Change.{Change}
 use Rattle.dns_journal.specs.declared.read.Cursor.{Cursor}
 use Rattle.dns_journal.specs.declared.journal.Journal.{Journal}
-use Rattle.dns_journal.specs.State.{Keeps, IsOpenedTimes, opened_of}
+use Rattle.dns_journal.specs.State.{Keeps, OpensAsOneOf, opened_of}
 use Rattle.dns_journal.specs.Bank.{sectors_of_entries, LaysBank, Turns, IsTurned, IsTurnedTo, LeavesEither}
 use Rattle.dns_journal.proofs.Bank.{tidy_from}
 use Rattle.dns_journal.proofs.Laying.{entries_count, versions_count}
@@ -29,8 +29,15 @@ root_turned r bank base len = record r { bank = bank; bank_open = r.open_count; 
 pub still_stored : {D : Type 0} {g : Ghosts D} (shape : Sizes) (old : Journal D g) (k : Stored) (keeps : Keeps shape old k []) (octets : List ℕ) (changes : List Change) (c : Content)
     → c ≡ g.seen old.device → LeavesEither shape k octets changes (opened_of old) c
 still_stored {D} {g} shape old k keeps octets changes c is =
-    subst (λ (d : Content). LeavesEither shape k octets changes (opened_of old) d) (sym is)
-    (inl (keeps.0, keeps.1, keeps.2.opens), tidy_from shape (g.seen old.device) keeps.0 (version_of k) keeps.2.opens.stands keeps.2.bank keeps.2.behind, ap open_count keeps.2.opens.stands ∙ keeps.2.says.opened_is)
+    subst (λ (d : Content). LeavesEither shape k octets changes (opened_of old) d) (sym is) (
+      keeps.2.content,
+      keeps.2.altered,
+      (
+        inl (keeps.0, keeps.1, keeps.2.opens),
+        tidy_from shape keeps.2.content keeps.0 (version_of k) keeps.2.opens.stands keeps.2.bank keeps.2.behind,
+        ap open_count keeps.2.opens.stands ∙ keeps.2.says.opened_is,
+      ),
+    )
 
 -- the positions of a bank depend on the two rooms alone
 module _ {D : Type 0} {g : Ghosts D} (shape : Sizes) (old : Journal D g) (k : Stored) (keeps : Keeps shape old k []) (octets : List ℕ) (changes : List Change) (bank : Bank) (base : ℕ) (ws : List Write) (next : Cursor)
@@ -40,7 +47,7 @@ module _ {D : Type 0} {g : Ghosts D} (shape : Sizes) (old : Journal D g) (k : St
   x = keeps.0
 
   abbrev pub stored : Stored
-  stored = record { base = base; snapshot = octets; entries = lays.entries }
+  stored = record { base = base; snapshot = octets; entries = lays.entries; altered = k.altered }
 
   snapshot_is : old.root.snapshot_room ≡ shape.snapshot
   snapshot_is = sym keeps.2.says.snapshot_room_is ∙ keeps.2.opens.valid.snapshot
@@ -67,7 +74,7 @@ module _ {D : Type 0} {g : Ghosts D} (shape : Sizes) (old : Journal D g) (k : St
   version_is = versions_count lays.entries base ∙ ap (λ n. base + n) (entries_count changes lays.entries lays.are) ∙ base_is ∙ keeps.2.version_is
 
   pub is_turned : IsTurned k octets changes stored
-  is_turned = record { base = base_is ∙ keeps.2.version_is; snapshot = refl; entries = lays.are }
+  is_turned = record { base = base_is ∙ keeps.2.version_is; snapshot = refl; entries = lays.are; altered = refl }
 
   pub turns : Turns shape k stored keeps.0 (root_turned old.root bank base (length octets)) ws
   turns = record {
@@ -97,13 +104,14 @@ module _ {D : Type 0} {g : Ghosts D} (shape : Sizes) (old : Journal D g) (k : St
         ∙ ap (λ n. writes_from (snapshot_place shape (other_of (number keeps.0))) lays.parts ++ writes_from n (sectors_of_entries lays.entries)) start_is;
   }
 
-  pub leaves_either : (c : Content) → (OpensAs shape c k ⊎ OpensAs shape c stored) × IsTidy shape c × IsOpenedTimes (open_count keeps.0) c → LeavesEither shape k octets changes (opened_of old) c
-  leaves_either c (inl before, tidy, opened) = (inl before, tidy, opened ∙ keeps.2.says.opened_is)
-  leaves_either c (inr after, tidy, opened) = (inr (stored, is_turned, after), tidy, opened ∙ keeps.2.says.opened_is)
+  pub leaves_either : (c : Content) → OpensAsOneOf shape k stored (open_count keeps.0) c → LeavesEither shape k octets changes (opened_of old) c
+  leaves_either c (d, altered, (inl before, tidy, opened)) = (d, altered, (inl before, tidy, opened ∙ keeps.2.says.opened_is))
+  leaves_either c (d, altered, (inr after, tidy, opened)) = (d, altered, (inr (stored, is_turned, after), tidy, opened ∙ keeps.2.says.opened_is))
 
-  pub turned_keeps : (new : Journal D g) → new.is_closed ≡ false → g.is_honest new.device → Only (g.seen new.device) (g.may_leave new.device) → IsTurnedTo shape stored (root_turned old.root bank base (length octets)) (open_count keeps.0) (g.seen new.device)
+  pub turned_keeps : (new : Journal D g) → new.is_closed ≡ false → g.is_honest new.device → Only (g.seen new.device) (g.may_leave new.device)
+      → Altered k.altered (IsTurnedTo shape stored (root_turned old.root bank base (length octets)) (open_count keeps.0)) (g.seen new.device)
       → new.root ≡ root_turned old.root bank base (length octets) → new.next ≡ next → pairs new.bodies.items ≡ pairs old.bodies.items → pairs new.heads.items ≡ pairs old.heads.items → Keeps shape new stored []
-  turned_keeps new is_open honest durable turned root next_is bodies heads =
+  turned_keeps new is_open honest durable (content, altered, turned) root next_is bodies heads =
       let bank_now : number turned.root ≡ other_of (bank_number old.root.bank) = turned.says.bank_is ∙ bank_is in
       let start : journal_place (rooms_of old.root) (other_of (bank_number old.root.bank)) ≡ journal_place shape (number turned.root) = start_is ∙ ap (λ n. journal_place shape n) (sym (bank_now ∙ other_is)) in
       let end : bank_end (rooms_of old.root) (other_of (bank_number old.root.bank)) ≡ bank_end shape (number turned.root) = end_is ∙ ap (λ n. bank_end shape n) (sym (bank_now ∙ other_is)) in (
@@ -113,6 +121,8 @@ module _ {D : Type 0} {g : Ghosts D} (shape : Sizes) (old : Journal D g) (k : St
           is_open = is_open;
           honest = honest;
           durable = durable;
+          content = content;
+          altered = altered;
           opens = turned.opens;
           says = subst (λ r. SaysRoot turned.root r) (sym root) turned.says;
           cleared = ap (λ (r : Root). r.is_clear) root ∙ keeps.2.cleared;

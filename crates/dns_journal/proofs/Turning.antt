@@ -3,14 +3,15 @@ use Rattle.std.proofs.Common.{◌≡◌, ◌⊎◌, inl, inr, ⊎_elim, ℕ, zer
 use Rattle.std.specs.Prelude.{slice_set}
 use Rattle.dns_sectors.specs.Device.{Content, MayWrite, Only}
 use Rattle.dns_sectors.specs.Crash.{Write, after_writes, SomeApplied, CrashOf}
+use Rattle.dns_sectors.proofs.Applied.{set_applied, writes_applied, crash_applied}
 use Rattle.dns_layout.specs.Sector.{sector_at, tag, open_count, sequence_number, number, bank_open, snapshot_length, snapshot_sectors, head_tag, head_tag_in, snapshot_tag, snapshot_tag_in, clear}
-use Rattle.dns_layout.specs.Own.{Own, IsIntactIn, AreOwn}
+use Rattle.dns_layout.specs.Own.{Own, IsIntactIn, AreOwn, Altered}
 use Rattle.dns_layout.specs.Forms.{SaysRoot, clear_number}
 use Rattle.dns_layout.specs.Journal.{Entry, entry_size, AreBodies, Stand, IsBatch, IsNextHead, IsBehind, AllBehind, place_behind, version_behind, writes_from}
 use Rattle.dns_layout.specs.Store.{Sizes, Stored, IsRoot, AreParts, OpensBy, OpensAs, IsTidy, IsLeftOver, all_sectors, snapshot_place, journal_place, bank_end, version_of, other_of}
 use Rattle.dns_layout.specs.declared.format.Format.TheVariants.{Two}
 use Rattle.dns_layout.specs.declared.root.Root.{Root}
-use Rattle.dns_journal.specs.State.{IsOpenedTimes}
+use Rattle.dns_journal.specs.State.{IsOpenedTimes, OpensAsOneOf}
 use Rattle.dns_journal.specs.Bank.{sectors_of_entries, Turns, IsTurnedTo}
 use Rattle.dns_journal.proofs.Places.{at_set-either, some_below, some-length, all_are_some, applied-append}
 use Rattle.dns_journal.proofs.Reading.{stand_same, version_grows}
@@ -217,24 +218,29 @@ module _ (s : Sizes) (k new : Stored) (d : Content) (x : List ℕ) (parts : List
   turn_crash c (inl not) = subst (λ (z : Content). (OpensAs s z k ⊎ OpensAs s z new) × IsTidy s z × IsOpenedTimes (open_count x) z) (sym not) (inl (x, parts, bank_written.0), bank_written.2, ap open_count bank_written.0.stands)
   turn_crash c (inr is) = subst (λ (z : Content). (OpensAs s z k ⊎ OpensAs s z new) × IsTidy s z × IsOpenedTimes (open_count x) z) (sym is) (inr (y, turns.parts, turn_opens), turn_tidy, ap open_count turn_opens.stands ∙ open_is)
 
-  -- during the two phases
-  pub first_left : (may_leave : Content → Type 0) → Only d may_leave → (c : Content) → CrashOf may_leave ws c → (OpensAs s c k ⊎ OpensAs s c new) × IsTidy s c × IsOpenedTimes (open_count x) c
-  first_left may_leave only c (e, left, some) =
-      let same = bank_crash c (subst (λ (z : Content). SomeApplied ws z c) (only e left) some) in
-      (inl (x, parts, same.0), same.2, ap open_count same.0.stands)
+  -- The device has some altered sectors in place of those of the content.
+  module _ (seen : Content) (altered : SomeApplied k.altered d seen) where
+    -- during the two phases
+    pub first_left : (may_leave : Content → Type 0) → Only seen may_leave → (c : Content) → CrashOf may_leave ws c → OpensAsOneOf s k new (open_count x) c
+    first_left may_leave only c (e, left, some) =
+        let intact = crash_applied k.altered ws d seen c altered (subst (λ (z : Content). SomeApplied ws z c) (only e left) some) in
+        let same = bank_crash intact.0 intact.1 in
+        (intact.0, intact.2, (inl (x, parts, same.0), same.2, ap open_count same.0.stands))
 
-  pub second_left : (mid : Content) (may_leave : Content → Type 0) → mid ≡ after_writes ws d → Only mid may_leave → (c : Content) → CrashOf may_leave ((0, y) ∷ []) c → (OpensAs s c k ⊎ OpensAs s c new) × IsTidy s c × IsOpenedTimes (open_count x) c
-  second_left mid may_leave written only c (e, left, some) = turn_crash c (subst (λ (z : Content). MayWrite 0 y z c) (only e left ∙ written) some)
+    made : SomeApplied k.altered (after_writes ws d) (after_writes ws seen)
+    made = writes_applied k.altered ws d seen altered
 
-  pub turned_to : (mid after : Content) → mid ≡ after_writes ws d → after ≡ slice_set mid 0 y → IsTurnedTo s new r (open_count x) after
-  turned_to mid after written is =
-      let same : slice_set (after_writes ws d) 0 y ≡ after = ap (λ (z : Content). slice_set z 0 y) (sym written) ∙ sym is in
-      record {
-        root = y;
-        parts = turns.parts;
-        says = says;
-        opens = subst (λ (z : Content). OpensBy s z y turns.parts new) same turn_opens;
-        bank = turn_bank;
-        behind = subst (λ (z : Content). AllBehind (open_count y) (version_of new) z) same turn_behind;
-        opened_is = open_is;
-      }
+    pub second_left : (mid : Content) (may_leave : Content → Type 0) → mid ≡ after_writes ws seen → Only mid may_leave → (c : Content)
+        → CrashOf may_leave ((0, y) ∷ []) c → OpensAsOneOf s k new (open_count x) c
+    second_left mid may_leave written only c (e, left, some) =
+        let intact = crash_applied k.altered ((0, y) ∷ []) (after_writes ws d) (after_writes ws seen) c made
+        (subst (λ (z : Content). SomeApplied ((0, y) ∷ []) z c) (only e left ∙ written) some) in
+        (intact.0, intact.2, turn_crash intact.0 intact.1)
+
+    pub turned_to : (mid after : Content) → mid ≡ after_writes ws seen → after ≡ slice_set mid 0 y → Altered k.altered (IsTurnedTo s new r (open_count x)) after
+    turned_to mid after written is = (
+      slice_set (after_writes ws d) 0 y,
+      subst (λ (z : Content). SomeApplied k.altered (slice_set (after_writes ws d) 0 y) z) (ap (λ (z : Content). slice_set z 0 y) (sym written) ∙ sym is)
+          (set_applied k.altered (after_writes ws d) (after_writes ws seen) 0 y made),
+      record { root = y; parts = turns.parts; says = says; opens = turn_opens; bank = turn_bank; behind = turn_behind; opened_is = open_is },
+    )

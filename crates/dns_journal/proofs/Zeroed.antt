@@ -3,16 +3,17 @@ use Rattle.std.proofs.Common.{◌≡◌, ◌≢◌, ◌⊎◌, inl, inr, ⊎_eli
 use Rattle.std.proofs.lemmas.Bool.{cases_lt}
 use Rattle.std.proofs.lemmas.List.{length-set}
 use Rattle.std.specs.Prelude.{slice_set}
-use Rattle.dns_sectors.specs.Device.{Content, Only}
+use Rattle.dns_sectors.specs.Device.{Content, Only, MayWrite}
 use Rattle.dns_sectors.specs.Crash.{Write, after_writes, SomeApplied, CrashOf}
 use Rattle.dns_sectors.specs.Phase.{zeros_from}
+use Rattle.dns_sectors.proofs.Applied.{set_applied, writes_applied, crash_applied}
 use Rattle.dns_layout.specs.Sector.{sector_at, blank, tag, head_tag, head_tag_in, root_tag, root_tag_in, open_count, number, bank_open, clear}
-use Rattle.dns_layout.specs.Own.{IsIntactIn}
-use Rattle.dns_layout.specs.Journal.{AllBehind}
-use Rattle.dns_layout.specs.Store.{Sizes, Stored, IsRoot, OpensBy, OpensByIn, IsTidy, IsLeftOver, all_sectors, snapshot_place, bank_end, other_of}
+use Rattle.dns_layout.specs.Own.{IsIntactIn, Altered}
+use Rattle.dns_layout.specs.Store.{Sizes, Stored, IsRoot, OpensBy, OpensByIn, OpensAs, IsTidy, IsLeftOver, all_sectors, snapshot_place, bank_end, other_of}
 use Rattle.dns_layout.specs.declared.format.Format.{Format}
 use Rattle.dns_layout.specs.declared.format.Format.TheVariants.{Two}
-use Rattle.dns_journal.specs.Clearing.{NamesSameBank, IsToClear, OpensStill}
+use Rattle.dns_journal.specs.State.{IsOpenedTimes}
+use Rattle.dns_journal.specs.Clearing.{NamesSameBank, IsToClear, IsCleared, OpensStill}
 use Rattle.dns_journal.proofs.Places.{at_set-same, at_set-other, some-length, all_are_some}
 use Rattle.dns_journal.proofs.Altered.{same_or_not}
 use Rattle.dns_journal.proofs.Between.{AllBetween, some_outside, banks_apart, root_apart, which_bank, bank_inside, zeros_between, zeros_stand}
@@ -119,11 +120,12 @@ module _ (s : Sizes) (k : Stored) (d : Content) (x : List ℕ) (parts : List (Li
       (λ at kept tagged. ⊎_elim (λ out. heads_stay c some at out tagged)
       (λ inside. absurd (kept (record { not_clear = begun.not_clear; from = inside.0; to = inside.1 }))) (out_or_in at)) bank
 
-  zeros_leave : (c : Content) → SomeApplied (zeros_from from (until - from)) d c → OpensStill s k x z c
-  zeros_leave c some = ((x, parts, stays c some), tidy_stays c some, inl (ap open_count (stays c some).stands))
+  -- It opens as before, by one of the two roots.
+  abbrev Stays : Content → Type 0
+  Stays c = OpensAs s c k × IsTidy s c × (IsOpenedTimes (open_count x) c ⊎ IsOpenedTimes (open_count z) c)
 
-  pub zeros_left : (may_leave : Content → Type 0) → Only d may_leave → (c : Content) → CrashOf may_leave (zeros_from from (until - from)) c → OpensStill s k x z c
-  zeros_left may_leave only c left = zeros_leave c (subst (λ (e : Content). SomeApplied (zeros_from from (until - from)) e c) (only left.0 left.1) left.2)
+  zeros_leave : (c : Content) → SomeApplied (zeros_from from (until - from)) d c → Stays c
+  zeros_leave c some = ((x, parts, stays c some), tidy_stays c some, inl (ap open_count (stays c some).stands))
 
   abbrev blanked : Content
   blanked = after_writes (zeros_from from (until - from)) d
@@ -155,16 +157,39 @@ module _ (s : Sizes) (k : Stored) (d : Content) (x : List ℕ) (parts : List (Li
       tidy_of s (slice_set blanked 0 z) z cleared_now.stands (λ at kept tagged. (let le = heads_left at tagged in omega (arith, le, begun.no_lower)))
       (omega (arith, begun.names.bank_open, bank, begun.no_lower))
 
-  pub cleared_left : (mid : Content) (may_leave : Content → Type 0) → mid ≡ after_writes (zeros_from from (until - from)) d → Only mid may_leave → (c : Content) → CrashOf may_leave ((0, z) ∷ []) c → OpensStill s k x z c
-  cleared_left mid may_leave is only c (e, left, inl not) = subst (λ (b : Content). OpensStill s k x z b) (sym (not ∙ only e left ∙ is)) (zeros_leave blanked all_zeros)
-  cleared_left mid may_leave is only c (e, left, inr new) =
-      subst (λ (b : Content). OpensStill s k x z b) (sym (new ∙ ap (λ (b : Content). slice_set b 0 z) (only e left ∙ is))) ((z, parts, cleared_now), tidy_now, inr (ap open_count cleared_now.stands))
+  root_leaves : (c : Content) → MayWrite 0 z blanked c → Stays c
+  root_leaves c (inl not) = subst (λ (b : Content). Stays b) (sym not) (zeros_leave blanked all_zeros)
+  root_leaves c (inr is) = subst (λ (b : Content). Stays b) (sym is) ((z, parts, cleared_now), tidy_now, inr (ap open_count cleared_now.stands))
 
-  module _ (after : Content) (is : after ≡ slice_set (after_writes (zeros_from from (until - from)) d) 0 z) where
-    pub cleared : OpensBy s after z parts k × IsTidy s after
-    cleared = subst (λ (b : Content). OpensBy s b z parts k × IsTidy s b) (sym is) (cleared_now, tidy_now)
+  cleared_is : IsCleared s k x parts z (slice_set blanked 0 z)
+  cleared_is = record {
+    opens = cleared_now;
+    tidy = tidy_now;
+    behind = λ less version at tagged. (let le = heads_left at tagged in inl (omega (arith, le, less)));
+  }
 
-    pub all_lower : open_count x < open_count z → (version : ℕ) → AllBehind (open_count z) version after
-    all_lower less version at tagged =
-        let le = subst (λ (b : Content). tag (sector_at b at) ≡ head_tag → open_count (sector_at b at) ≤ open_count x) (sym is) (heads_left at) tagged in
-        inl (omega (arith, le, less))
+  -- The device has some altered sectors in place of those of the content.
+  module _ (seen : Content) (altered : SomeApplied k.altered d seen) where
+    pub zeros_left : (may_leave : Content → Type 0) → Only seen may_leave → (c : Content) → CrashOf may_leave (zeros_from from (until - from)) c
+        → OpensStill s k x z c
+    zeros_left may_leave only c (e, left, some) =
+        let intact = crash_applied k.altered zeros d seen c altered (subst (λ (b : Content). SomeApplied zeros b c) (only e left) some) in
+        (intact.0, intact.2, zeros_leave intact.0 intact.1)
+
+    made : SomeApplied k.altered blanked (after_writes zeros seen)
+    made = writes_applied k.altered zeros d seen altered
+
+    pub cleared_left : (mid : Content) (may_leave : Content → Type 0) → mid ≡ after_writes (zeros_from from (until - from)) seen → Only mid may_leave
+        → (c : Content) → CrashOf may_leave ((0, z) ∷ []) c → OpensStill s k x z c
+    cleared_left mid may_leave is only c (e, left, some) =
+        let intact = crash_applied k.altered ((0, z) ∷ []) blanked (after_writes zeros seen) c made
+        (subst (λ (b : Content). SomeApplied ((0, z) ∷ []) b c) (only e left ∙ is) some) in
+        (intact.0, intact.2, root_leaves intact.0 intact.1)
+
+    pub cleared : (after : Content) → after ≡ slice_set (after_writes (zeros_from from (until - from)) seen) 0 z
+        → Altered k.altered (IsCleared s k x parts z) after
+    cleared after is = (
+      slice_set blanked 0 z,
+      subst (λ (b : Content). SomeApplied k.altered (slice_set blanked 0 z) b) (sym is) (set_applied k.altered blanked (after_writes zeros seen) 0 z made),
+      cleared_is,
+    )

@@ -3,12 +3,12 @@ use Rattle.std.specs.Prelude.{◌≡◌, ◌⊎◌, ◌≤◌, true, ℕ, ◌+�
 use Rattle.std.specs.Prelude.{replicate}
 use Rattle.std.specs.List.{flat_map}
 use Rattle.dns_sectors.specs.Device.{Content, Only}
-use Rattle.dns_sectors.specs.Crash.{Write}
+use Rattle.dns_sectors.specs.Crash.{Write, SomeApplied}
 use Rattle.dns_layout.specs.Apex.{apex_octets}
 use Rattle.dns_layout.specs.Sector.{open_count, sequence_number, number, bank_open, payload, payload_room}
 use Rattle.dns_layout.specs.Sector.{clear}
 use Rattle.dns_layout.specs.Sector.{entry_sectors, snapshot_sectors}
-use Rattle.dns_layout.specs.Own.{AreOwn}
+use Rattle.dns_layout.specs.Own.{Altered, AreOwn}
 use Rattle.dns_layout.specs.Forms.{SaysRoot, bank_number}
 use Rattle.dns_layout.specs.Journal.{Entry, entry_size, entry_octets, IsNextEntry, IsBatch, AllBehind}
 use Rattle.dns_layout.specs.Journal.{writes_from, place_behind, version_behind}
@@ -100,12 +100,15 @@ pub record IsTurned (k : Stored) (octets : List ℕ) (changes : List Change) (ne
   pub base : new.base + length changes ≡ version_of k
   pub snapshot : new.snapshot ≡ octets
   pub entries : AreEntries changes new.entries
+  pub altered : new.altered ≡ k.altered
 
--- A crash left what was stored, or what is stored after the turn, of a store that was opened so often.
+-- A crash left what was stored, or what is stored after the turn, of a store that was opened so often, but
+-- for sectors that were altered before.
 abbrev pub LeavesEither : Sizes → Stored → List ℕ → List Change → ℕ → Content → Type 0
-LeavesEither shape k octets changes opened c =
-    (OpensAs shape c k ⊎ ((new : Stored) × IsTurned k octets changes new × OpensAs shape c new))
-    × IsTidy shape c × IsOpenedTimes opened c
+LeavesEither shape k octets changes opened =
+    Altered k.altered
+    (λ c. (OpensAs shape c k ⊎ ((new : Stored) × IsTurned k octets changes new × OpensAs shape c new))
+    × IsTidy shape c × IsOpenedTimes opened c)
 
 -- how many sectors a bank has for its snapshot, and for its journal
 abbrev pub snapshot_room_of : {D : Type 0} {g : Ghosts D} → Journal D g → ℕ
@@ -167,16 +170,17 @@ pub record Turns (s : Sizes) (k new : Stored) (x : List ℕ) (r : Root) (ws : Li
   pub written : ws ≡ writes_from (snapshot_place s (other_of (number x))) parts ++ writes_from
       (journal_place s (other_of (number x))) (sectors_of_entries new.entries)
 
--- Of each turn that these writes and this root make of what an honest device holds, P: everything on it is
--- durable, and no head on it is ahead of what is stored.
+-- Of each turn that these writes and this root make of what an honest device holds, but for sectors that were
+-- altered, P: everything on it is durable, and no head on it is ahead of what is stored.
 abbrev pub EachTurn : {D : Type 0} → Ghosts D → D → Root → List Write
     → (Sizes → Stored → Stored → List ℕ → Type 0) → Type 0
 EachTurn g device r ws P =
-    (s : Sizes) (k new : Stored) (x : List ℕ) (parts : List (List ℕ))
+    (s : Sizes) (k new : Stored) (x : List ℕ) (parts : List (List ℕ)) (c : Content)
     → g.is_honest device → Only (g.seen device) (g.may_leave device)
-    → OpensBy s (g.seen device) x parts k
+    → SomeApplied k.altered c (g.seen device)
+    → OpensBy s c x parts k
     → bank_open x ≤ open_count x
-    → AllBehind (open_count x) (version_of k) (g.seen device)
+    → AllBehind (open_count x) (version_of k) c
     → Turns s k new x r ws
     → P s k new x
 

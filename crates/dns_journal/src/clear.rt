@@ -1,11 +1,9 @@
 //! The bank that isn't in use is cleared of what format 1 left there.
 ghost use Rattle.std.specs.Prelude.{◌≡◌, ◌≤◌, ◌<◌, ◌↔◌, ℕ, OnOk};
 ghost use Rattle.dns_sectors.specs.Device.{Only, LeavesOnly, CountsFailure};
-ghost use Rattle.dns_layout.specs.Sector.{open_count};
-ghost use Rattle.dns_layout.specs.Journal.{AllBehind};
-ghost use Rattle.dns_layout.specs.Store.{OpensBy, IsTidy};
+ghost use Rattle.dns_layout.specs.Own.{Altered};
 ghost use Rattle.dns_journal.specs.Phases.{IfSettled};
-ghost use Rattle.dns_journal.specs.Clearing.{EachToClear, StaysUncleared};
+ghost use Rattle.dns_journal.specs.Clearing.{EachToClear, IsCleared, StaysUncleared};
 
 use dns_sectors::{DeviceError, Sector, SectorWrite, Sectors, write_phase, write_zeros};
 
@@ -23,12 +21,8 @@ pub fn clear_bank<D: Sectors>(
     ensures any_moment { IfSettled D.Sectors device.old
         (LeavesOnly D.moment D.left_since device.old device.new
         (StaysUncleared from until root.now (D.seen device.old))) }
-    ensures cleared { EachToClear D.Sectors device.old from until root.now (λ s k _ parts. OnOk result
-        (OpensBy s (D.seen device.new) root.now parts k × IsTidy s (D.seen device.new))) }
-    // Each head that is left has a lower open count than a root whose count was raised.
-    ensures behind { EachToClear D.Sectors device.old from until root.now (λ _ _ x _.
-        open_count x < open_count root.now
-        → OnOk result ((version : ℕ) → AllBehind (open_count root.now) version (D.seen device.new))) }
+    ensures cleared { EachToClear D.Sectors device.old from until root.now (λ s k x parts. OnOk result
+        (Altered k.altered (IsCleared s k x parts root.now) (D.seen device.new))) }
     ensures durable { D.is_honest device.old
         → OnOk result (Only (D.seen device.new) (D.may_leave device.new)) }
     ensures failed { CountsFailure result (D.failed device.old) (D.failed device.new) }

@@ -7,6 +7,7 @@ ghost use Rattle.dns_sectors.specs.Device.{Only, LeavesOnly, CountsFailure};
 ghost use Rattle.dns_sectors.specs.Crash.{after_writes, CrashOf};
 ghost use Rattle.dns_sectors.specs.Phase.{pairs, AllWithin};
 ghost use Rattle.dns_layout.specs.Sector.{sector_at, head_room, entry_sectors as sectors_of_entry};
+ghost use Rattle.dns_layout.specs.Own.{Altered};
 ghost use Rattle.dns_changes.specs.Entry.{HasEntry, entry};
 ghost use Rattle.dns_journal.specs.Phases.{IfSettled, LeftByBatch};
 ghost use Rattle.dns_journal.specs.Staging.{Stages, PushesBodies};
@@ -127,7 +128,7 @@ impl<D: Sectors> Journal<D> {
     pub fn left(&self) -> usize
         ensures left { result ≡ free_sectors self.now }
         ensures kept { (shape : Sizes) (k : Stored) (staged : List Entry) → Keeps shape self.now k staged
-            → (root : List ℕ) × (sector_at (D.seen (device_of self.now)) 0 ≡ root)
+            → (root : List ℕ) × Altered k.altered (λ c. sector_at c 0 ≡ root) (D.seen (device_of self.now))
             × (result ≡ sectors_behind shape root k staged) }
     {
         self.next.until - self.next.at

@@ -9,7 +9,7 @@ ghost use Rattle.dns_layout.specs.Sector.{entry_sectors as sectors_of_entry};
 ghost use Rattle.dns_layout.specs.Sector.{snapshot_sectors as sectors_of_snapshot};
 ghost use Rattle.dns_layout.specs.Sector.{blank, payload_room, open_count};
 ghost use Rattle.dns_layout.specs.Forms.{SaysPart, bank_number};
-ghost use Rattle.dns_layout.specs.Own.{Own};
+ghost use Rattle.dns_layout.specs.Own.{Altered, Own};
 ghost use Rattle.dns_layout.specs.Store.{Sizes, Stored, other_of};
 ghost use Rattle.dns_journal.specs.Bank.{part_of, piece, HoldsOctets, sectors_for, PushesParts, PushesEntry};
 ghost use Rattle.dns_journal.specs.Bank.{PushesEntries};
@@ -276,8 +276,8 @@ pub(crate) fn turn_to<D: Sectors>(
     requires some { 0 < D.count device.old }
     ensures any_moment { EachTurn D.Sectors device.old root.now (pairs writes.now) (λ s k new x.
         LeavesOnly D.moment D.left_since device.old device.new (OpensAsOneOf s k new (open_count x))) }
-    ensures turned { EachTurn D.Sectors device.old root.now (pairs writes.now) (λ s _ new x.
-        OnOk result (IsTurnedTo s new root.now (open_count x) (D.seen device.new))) }
+    ensures turned { EachTurn D.Sectors device.old root.now (pairs writes.now) (λ s k new x.
+        OnOk result (Altered k.altered (IsTurnedTo s new root.now (open_count x)) (D.seen device.new))) }
     ensures durable { D.is_honest device.old
         → OnOk result (Only (D.seen device.new) (D.may_leave device.new)) }
     ensures failed { CountsFailure result (D.failed device.old) (D.failed device.new) }

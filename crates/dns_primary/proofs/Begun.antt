@@ -61,6 +61,7 @@ begun zone settings = record {
   base = 0;
   second = None;
   openings = 1;
+  altered = [];
   closed = false;
 }
 
@@ -81,6 +82,7 @@ all_begun (z ∷ zones) (s ∷ settings) e =
           base = refl;
           second = refl;
           openings = refl;
+          altered = refl;
           opened = refl;
         },
         rest.1,
@@ -102,6 +104,7 @@ loaded_opened zone settings z h =
     let base = h.base in
     let second = h.second in
     let openings = h.openings in
+    let altered = h.altered in
     let opened = h.opened in
     λ i. record {
       shape = shape i;
@@ -111,5 +114,6 @@ loaded_opened zone settings z h =
       base = base i;
       second = second i;
       openings = openings i;
+      altered = altered i;
       closed = opened i;
     }

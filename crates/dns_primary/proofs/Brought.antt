@@ -33,7 +33,7 @@ use Rattle.dns_primary.proofs.Zonewise.{tested, pair_same, pair_on, pair_set, pa
 use Rattle.dns_primary.proofs.Preserved.{has, same_moved, same_updates}
 
 same_on : (a b c : ZoneState) → Same a b → Same b c → Same a c
-same_on a b c p q = record { setting = q.setting ∙ p.setting; loaded = q.loaded ∙ p.loaded; updates = q.updates ∙ p.updates; openings = q.openings ∙ p.openings }
+same_on a b c p q = record { setting = q.setting ∙ p.setting; loaded = q.loaded ∙ p.loaded; updates = q.updates ∙ p.updates; openings = q.openings ∙ p.openings; altered = q.altered ∙ p.altered }
 
 flushed_same : (fails : List Bool) (zones : List ZoneState) → Each2 Same zones (flushed_zones fails zones)
 flushed_same [] zones = pair_same Same same_itself zones
@@ -60,21 +60,23 @@ record IsWith (Q : ZoneState → Message → Type 0) (z w : ZoneState) : Type 0 
   setting : w.setting ≡ z.setting
   updates : (updates_of w ≡ updates_of z) ⊎ ((made : Made) × (updates_of w ≡ updates_of z ++ made ∷ []) × Q w made.update)
   openings : w.openings ≡ z.openings
+  altered : w.altered ≡ z.altered
 
 abbrev AreWith : (ZoneState → Message → Type 0) → List ZoneState → List ZoneState → Type 0
 AreWith Q = Each2 (IsWith Q)
 
 with_itself : (Q : ZoneState → Message → Type 0) (z : ZoneState) → IsWith Q z z
-with_itself Q z = record { setting = refl; updates = inl refl; openings = refl }
+with_itself Q z = record { setting = refl; updates = inl refl; openings = refl; altered = refl }
 
 from_same : (Q : ZoneState → Message → Type 0) (z w : ZoneState) → Same z w → IsWith Q z w
-from_same Q z w s = record { setting = s.setting; updates = inl s.updates; openings = s.openings }
+from_same Q z w s = record { setting = s.setting; updates = inl s.updates; openings = s.openings; altered = s.altered }
 
 same_with : (Q : ZoneState → Message → Type 0) (a b c : ZoneState) → Same a b → IsWith Q b c → IsWith Q a c
 same_with Q a b c s w = record {
   setting = w.setting ∙ s.setting;
   updates = ⊎_elim (λ e. inl (e ∙ s.updates)) (λ e. inr (e.0, e.1 ∙ ap (λ (us : List Made). us ++ e.0 ∷ []) s.updates, e.2)) w.updates;
   openings = w.openings ∙ s.openings;
+  altered = w.altered ∙ s.altered;
 }
 
 all_same : (Q : ZoneState → Message → Type 0) (old new : List ZoneState) → Each2 Same old new → AreWith Q old new
@@ -182,7 +184,7 @@ module _ (old : Machine) (event : Event) (a : Asked) (b : IsBrought old event a)
       (let made : Made = record { update = a.message; records = records } in
       let before = pair_found_before Same old.zones m.zones index z same h.stands in
       pair_set (IsWith (Brings old event)) (with_itself (Brings old event)) m.zones index z (with_staged made z) h.stands
-      (record { setting = refl; updates = inr (made, sym (append_assoc z.shown z.staged (made ∷ [])), brings index before.zone (with_staged made z) before.there before.holds.setting h.named h.allowed); openings = refl })))
+      (record { setting = refl; updates = inr (made, sym (append_assoc z.shown z.staged (made ∷ [])), brings index before.zone (with_staged made z) before.there before.holds.setting h.named h.allowed); openings = refl; altered = refl })))
       (λ _. still m)
 
   judged_brings : (m : Machine) → Each2 Same old.zones m.zones → (index : ℕ) (z : ZoneState) (v : Verdict) → IsAllowed m.zones a index z → Goes_to m (judged_in m a index z v)
@@ -273,6 +275,7 @@ record IsOf (m : Machine) (t : Moment) (z y : ZoneState) : Type 0 where
   shape : y.setting.shape ≡ z.setting.shape
   updates : (u : Made) → Has (updates_of y) u → Has (updates_of z) u ⊎ BringsIn m t y u.update
   openings : y.openings ≤ z.openings + openings_in (t ∷ [])
+  altered : y.altered ≡ z.altered
 
 same_has : (xs ys : List Made) (u : Made) → xs ≡ ys → Has xs u → Has ys u
 same_has xs ys u e h = subst (λ (us : List Made). Has us u) e h
@@ -286,6 +289,7 @@ with_is fails m event effects new z y w = record {
       (has_either (updates_of z) (e.0 ∷ []) u (same_has (updates_of y) (updates_of z ++ e.0 ∷ []) u e.1 h)))
       w.updates;
   openings = (let same = w.openings in omega (arith, same));
+  altered = w.altered;
 }
 
 all_with_are : (fails : List Bool) (m : Machine) (event : Event) (effects : Effects) (new : Machine) (old now : List ZoneState) → AreWith (Brings m event) old now
@@ -298,6 +302,7 @@ all_with_are fails m event effects new (z ∷ old) (y ∷ now) h = (with_is fail
 recovered_is : (least most : ℕ) (making : ℕ → Type 0) (m : Machine) (event : Event) (tries : ℕ) (new : Machine) (z y : ZoneState) → most ≤ suc tries → IsRecovered least most making z y → IsOf m (Stopped event tries new) z y
 recovered_is least most making m event tries new z y few r = record {
   openings = (let at = r.at_most in omega (arith, at, few));
+  altered = r.altered;
   shape = ap (λ (s : Setting). s.shape) r.setting;
   updates = λ u h.
       (let now : updates_of y ≡ z.shown ++ r.kept = ap (λ (us : List Made). y.shown ++ us) r.staged ∙ append-nil y.shown ∙ r.shown in
@@ -318,6 +323,7 @@ anew_is m new z y s = record {
   shape = s.shape;
   updates = λ u h. inl (same_has (updates_of y) (updates_of z) u (ap updates_of s.rest) h);
   openings = (let same : y.openings ≡ z.openings = ap (λ (x : ZoneState). x.openings) s.rest in omega (arith, same));
+  altered = ap (λ (x : ZoneState). x.altered) s.rest;
 }
 
 moment_is : (m : Machine) (t : Moment) → Happens m t → Each2 (IsOf m t) m.zones (machine_after t).zones
@@ -330,6 +336,7 @@ record CameFrom (m : Machine) (run : List Moment) (z w : ZoneState) : Type 0 whe
   shape : w.setting.shape ≡ z.setting.shape
   updates : (u : Made) → Has (updates_of w) u → Has (updates_of z) u ⊎ CameIn m run w u.update
   openings : w.openings ≤ z.openings + openings_in run
+  altered : w.altered ≡ z.altered
 
 brings_as : (m : Machine) (t : Moment) (y w : ZoneState) (x : Message) → w.setting.shape ≡ y.setting.shape → BringsIn m t y x → BringsIn m t w x
 brings_as m (Took event fails effects new) y w x e b = record {
@@ -359,6 +366,7 @@ came_on m t rest z y w p q = record {
   shape = q.shape ∙ p.shape;
   updates = λ u h. ⊎_elim (λ a. ⊎_elim (λ b. inl b) (λ b. inr (inl (brings_as m t y w u.update q.shape b))) (p.updates u a)) (λ c. inr (inr c)) (q.updates u h);
   openings = (let one = p.openings in let two = q.openings in let both = both_times t rest in omega (arith, one, two, both));
+  altered = q.altered ∙ p.altered;
 }
 
 all_came_on : (m : Machine) (t : Moment) (rest : List Moment) (olds mids news : List ZoneState) → Each2 (IsOf m t) olds mids → Each2 (CameFrom (machine_after t) rest) mids news
@@ -371,7 +379,7 @@ all_came_on m t rest (z ∷ olds) (y ∷ mids) [] p q = absurd q
 all_came_on m t rest (z ∷ olds) (y ∷ mids) (w ∷ news) p q = (came_on m t rest z y w p.0 q.0, all_came_on m t rest olds mids news p.1 q.1)
 
 run_came : (m : Machine) (run : List Moment) → Run m run → Each2 (CameFrom m run) m.zones (machine_at_end m run).zones
-run_came m [] r = pair_same (CameFrom m []) (λ z. record { shape = refl; updates = λ u h. inl h; openings = omega arith }) m.zones
+run_came m [] r = pair_same (CameFrom m []) (λ z. record { shape = refl; updates = λ u h. inl h; openings = omega arith; altered = refl }) m.zones
 run_came m (t ∷ rest) r = all_came_on m t rest m.zones (machine_after t).zones (machine_at_end (machine_after t) rest).zones (moment_is m t r.0) (run_came (machine_after t) rest r.1)
 
 each_has : (P : Made → Type 0) (xs : List Made) → ((u : Made) → Has xs u → P u) → AllByRecursion P xs

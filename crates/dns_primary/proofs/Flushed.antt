@@ -3,6 +3,7 @@ use Rattle.std.proofs.Common.{◌≡◌, ◌≤◌, arith, ℕ, zero, suc, Bool,
 use Rattle.std.specs.Prelude.{Some, None, Option, slice_get, IsTrue, ◌↔◌, ◌||◌, if◌then◌else◌}
 use Rattle.std.proofs.lemmas.List.{map-append}
 use Rattle.dns_records.specs.Record.{Record}
+use Rattle.dns_sectors.specs.Crash.{Write}
 use Rattle.dns_store.specs.Versions.{Kept}
 use Rattle.dns_versions.specs.Each.{Each3}
 use Rattle.dns_versions.specs.Flush as held
@@ -14,15 +15,15 @@ use Rattle.dns_primary.specs.declared.primary.ZoneSpec.{ZoneSpec}
 use Rattle.dns_policy.specs.Prefix.{IsAllowed}
 use Rattle.dns_versions.specs.Each.{Each2}
 
-case : (f : Bool) (s : Setting) (l : List Record) (shown staged : List Made) (base : ℕ) (second : Option ℕ) (openings : ℕ) (closed : Bool)
-    → kept_of (flushed_zone f (record { setting = s; loaded = l; shown = shown; staged = staged; base = base; second = second; openings = openings; closed = closed })) ≡ held.kept_after_flush f (kept_of (record { setting = s; loaded = l; shown = shown; staged = staged; base = base; second = second; openings = openings; closed = closed }))
-case f s l shown staged base second openings true = refl
-case f s l shown [] base second openings false = refl
-case true s l shown (m ∷ staged) base second openings false = refl
-case false s l shown (m ∷ staged) base second openings false = λ i. record { shape = s.shape; loaded = l; shown = map-append (λ (x : Made). x.records) shown (m ∷ staged) i; staged = []; base = base; second = second; openings = openings; closed = false }
+case : (f : Bool) (s : Setting) (l : List Record) (shown staged : List Made) (base : ℕ) (second : Option ℕ) (openings : ℕ) (altered : List Write) (closed : Bool)
+    → kept_of (flushed_zone f (record { setting = s; loaded = l; shown = shown; staged = staged; base = base; second = second; openings = openings; altered = altered; closed = closed })) ≡ held.kept_after_flush f (kept_of (record { setting = s; loaded = l; shown = shown; staged = staged; base = base; second = second; openings = openings; altered = altered; closed = closed }))
+case f s l shown staged base second openings altered true = refl
+case f s l shown [] base second openings altered false = refl
+case true s l shown (m ∷ staged) base second openings altered false = refl
+case false s l shown (m ∷ staged) base second openings altered false = λ i. record { shape = s.shape; loaded = l; shown = map-append (λ (x : Made). x.records) shown (m ∷ staged) i; staged = []; base = base; second = second; openings = openings; altered = altered; closed = false }
 
 pub kept_flushed : (f : Bool) (z : ZoneState) → kept_of (flushed_zone f z) ≡ held.kept_after_flush f (kept_of z)
-kept_flushed f z = case f z.setting z.loaded z.shown z.staged z.base z.second z.openings z.closed
+kept_flushed f z = case f z.setting z.loaded z.shown z.staged z.base z.second z.openings z.altered z.closed
 
 pub kept_flushed_all : (fails : List Bool) (zs : List ZoneState) → map kept_of (flushed_zones fails zs) ≡ held.flushed_to fails (map kept_of zs)
 kept_flushed_all [] zs = refl

@@ -6,6 +6,7 @@ use Rattle.dns_names.specs.Name.{Labels, names_eq}
 use Rattle.dns_records.specs.Record.{Record}
 use Rattle.dns_records.specs.Types.{type_soa, class_in}
 use Rattle.dns_request.specs.Codes.{rcode_formerr, rcode_notauth, rcode_refused, rcode_servfail}
+use Rattle.dns_sectors.specs.Crash.{Write}
 use Rattle.dns_store.specs.Versions.{newest_after}
 use Rattle.dns_versions.specs.Each.{Each2}
 use Rattle.dns_versions.specs.Held.{newest_zone}
@@ -31,13 +32,13 @@ follows_itself z = record { setting = refl; newest = refl; shut = λ e. e }
 follows_on : (a b c : ZoneState) → Follows a b → Follows b c → Follows a c
 follows_on a b c p q = record { setting = q.setting ∙ p.setting; newest = q.newest ∙ p.newest; shut = λ e. q.shut (p.shut e) }
 
-flushed_by : (f : Bool) (s : Setting) (l : List Record) (shown staged : List Made) (base : ℕ) (second : Option ℕ) (openings : ℕ) (closed : Bool)
-    → Follows (record { setting = s; loaded = l; shown = shown; staged = staged; base = base; second = second; openings = openings; closed = closed })
-    (flushed_zone f (record { setting = s; loaded = l; shown = shown; staged = staged; base = base; second = second; openings = openings; closed = closed }))
-flushed_by f s l shown staged base second openings true = record { setting = refl; newest = refl; shut = λ e. e }
-flushed_by f s l shown [] base second openings false = record { setting = refl; newest = refl; shut = λ e. e }
-flushed_by true s l shown (m ∷ staged) base second openings false = record { setting = refl; newest = refl; shut = λ e. refl }
-flushed_by false s l shown (m ∷ staged) base second openings false = record {
+flushed_by : (f : Bool) (s : Setting) (l : List Record) (shown staged : List Made) (base : ℕ) (second : Option ℕ) (openings : ℕ) (altered : List Write) (closed : Bool)
+    → Follows (record { setting = s; loaded = l; shown = shown; staged = staged; base = base; second = second; openings = openings; altered = altered; closed = closed })
+    (flushed_zone f (record { setting = s; loaded = l; shown = shown; staged = staged; base = base; second = second; openings = openings; altered = altered; closed = closed }))
+flushed_by f s l shown staged base second openings altered true = record { setting = refl; newest = refl; shut = λ e. e }
+flushed_by f s l shown [] base second openings altered false = record { setting = refl; newest = refl; shut = λ e. e }
+flushed_by true s l shown (m ∷ staged) base second openings altered false = record { setting = refl; newest = refl; shut = λ e. refl }
+flushed_by false s l shown (m ∷ staged) base second openings altered false = record {
   setting = refl;
   newest =
       let whole : versions_of (shown ++ m ∷ staged) ++ [] ≡ versions_of shown ++ versions_of (m ∷ staged) = append-nil (versions_of (shown ++ m ∷ staged)) ∙ versions_joined shown (m ∷ staged) in
@@ -46,7 +47,7 @@ flushed_by false s l shown (m ∷ staged) base second openings false = record {
 }
 
 zone_follows : (f : Bool) (z : ZoneState) → Follows z (flushed_zone f z)
-zone_follows f z = flushed_by f z.setting z.loaded z.shown z.staged z.base z.second z.openings z.closed
+zone_follows f z = flushed_by f z.setting z.loaded z.shown z.staged z.base z.second z.openings z.altered z.closed
 
 flushed_all : (fails : List Bool) (zones : List ZoneState) → Each2 Follows zones (flushed_zones fails zones)
 flushed_all [] zones = pair_same Follows follows_itself zones

@@ -8,6 +8,7 @@ use Rattle.dns_zone.specs.Zone.{Zone}
 use Rattle.dns_zone.specs.declared.index.ZoneIndex as zone_index
 use Rattle.dns_records.specs.Record.{Record}
 use Rattle.dns_sectors.specs.Device.{Content, LeavesOnly}
+use Rattle.dns_sectors.specs.Crash.{Write}
 use Rattle.dns_sectors.proofs.Moments.{weaker}
 use Rattle.dns_store.specs.declared.zone_store.ZoneStore as store
 use Rattle.dns_store.specs.declared.checkpoint.CheckpointError.{CheckpointError}
@@ -48,14 +49,14 @@ without store moment left_since opens (a ∷ olds) (b ∷ news) (z ∷ zones) ea
 without store moment left_since opens _ _ _ each = absurd each
 
 -- a zone of which nothing is staged, or that is closed, is as it would be after a flush
-settled_by : (s : Setting) (l : List Record) (shown staged : List Made) (base : ℕ) (second : Option ℕ) (openings : ℕ) (closed : Bool) → (closed ≡ true) ⊎ (staged ≡ [])
-    → held.kept_after_flush false (kept_of (record { setting = s; loaded = l; shown = shown; staged = staged; base = base; second = second; openings = openings; closed = closed })) ≡ kept_of (record { setting = s; loaded = l; shown = shown; staged = staged; base = base; second = second; openings = openings; closed = closed })
-settled_by s l shown staged base second openings true settled = refl
-settled_by s l shown [] base second openings false settled = refl
-settled_by s l shown (m ∷ staged) base second openings false settled = ⊎_elim (λ e. absurd cc) (λ e. absurd cc) settled
+settled_by : (s : Setting) (l : List Record) (shown staged : List Made) (base : ℕ) (second : Option ℕ) (openings : ℕ) (altered : List Write) (closed : Bool) → (closed ≡ true) ⊎ (staged ≡ [])
+    → held.kept_after_flush false (kept_of (record { setting = s; loaded = l; shown = shown; staged = staged; base = base; second = second; openings = openings; altered = altered; closed = closed })) ≡ kept_of (record { setting = s; loaded = l; shown = shown; staged = staged; base = base; second = second; openings = openings; altered = altered; closed = closed })
+settled_by s l shown staged base second openings altered true settled = refl
+settled_by s l shown [] base second openings altered false settled = refl
+settled_by s l shown (m ∷ staged) base second openings altered false settled = ⊎_elim (λ e. absurd cc) (λ e. absurd cc) settled
 
 pub settled_flushed : (z : ZoneState) → IsSettled z → held.kept_after_flush false (kept_of z) ≡ kept_of z
-settled_flushed z settled = settled_by z.setting z.loaded z.shown z.staged z.base z.second z.openings z.closed settled
+settled_flushed z settled = settled_by z.setting z.loaded z.shown z.staged z.base z.second z.openings z.altered z.closed settled
 
 open_of : (b : Bool) → (b ≡ true → ⊥) → b ≡ false
 open_of true none = absurd (none refl)
@@ -131,28 +132,28 @@ still_result {T} S F (Err e) is still =
     ⊎_elim (λ failed. (let clash : ◌≡◌ {A = Result T CheckpointError} (Err refused.Device) (Err refused.Closed) = sym failed ∙ is in absurd (cc clash))) (λ both. both.0) still
 
 -- a zone after a flush
-zone_by : (f : Bool) (s : Setting) (l : List Record) (shown staged : List Made) (base : ℕ) (second : Option ℕ) (openings : ℕ) (closed : Bool)
-    → IsSettled (flushed_zone f (record { setting = s; loaded = l; shown = shown; staged = staged; base = base; second = second; openings = openings; closed = closed }))
-zone_by f s l shown staged base second openings true = inl refl
-zone_by f s l shown [] base second openings false = inr refl
-zone_by true s l shown (m ∷ staged) base second openings false = inl refl
-zone_by false s l shown (m ∷ staged) base second openings false = inr refl
+zone_by : (f : Bool) (s : Setting) (l : List Record) (shown staged : List Made) (base : ℕ) (second : Option ℕ) (openings : ℕ) (altered : List Write) (closed : Bool)
+    → IsSettled (flushed_zone f (record { setting = s; loaded = l; shown = shown; staged = staged; base = base; second = second; openings = openings; altered = altered; closed = closed }))
+zone_by f s l shown staged base second openings altered true = inl refl
+zone_by f s l shown [] base second openings altered false = inr refl
+zone_by true s l shown (m ∷ staged) base second openings altered false = inl refl
+zone_by false s l shown (m ∷ staged) base second openings altered false = inr refl
 
 pub zone_settled : (f : Bool) (z : ZoneState) → IsSettled (flushed_zone f z)
-zone_settled f z = zone_by f z.setting z.loaded z.shown z.staged z.base z.second z.openings z.closed
+zone_settled f z = zone_by f z.setting z.loaded z.shown z.staged z.base z.second z.openings z.altered z.closed
 
-open_by : (f : Bool) (s : Setting) (l : List Record) (shown staged : List Made) (base : ℕ) (second : Option ℕ) (openings : ℕ) (closed : Bool)
-    → (flushed_zone f (record { setting = s; loaded = l; shown = shown; staged = staged; base = base; second = second; openings = openings; closed = closed })).closed ≡ false
-    → flushed_zone f (record { setting = s; loaded = l; shown = shown; staged = staged; base = base; second = second; openings = openings; closed = closed })
-    ≡ flushed_zone false (record { setting = s; loaded = l; shown = shown; staged = staged; base = base; second = second; openings = openings; closed = closed })
-open_by f s l shown staged base second openings true is = refl
-open_by f s l shown [] base second openings false is = refl
-open_by true s l shown (m ∷ staged) base second openings false is = absurd (cc is)
-open_by false s l shown (m ∷ staged) base second openings false is = refl
+open_by : (f : Bool) (s : Setting) (l : List Record) (shown staged : List Made) (base : ℕ) (second : Option ℕ) (openings : ℕ) (altered : List Write) (closed : Bool)
+    → (flushed_zone f (record { setting = s; loaded = l; shown = shown; staged = staged; base = base; second = second; openings = openings; altered = altered; closed = closed })).closed ≡ false
+    → flushed_zone f (record { setting = s; loaded = l; shown = shown; staged = staged; base = base; second = second; openings = openings; altered = altered; closed = closed })
+    ≡ flushed_zone false (record { setting = s; loaded = l; shown = shown; staged = staged; base = base; second = second; openings = openings; altered = altered; closed = closed })
+open_by f s l shown staged base second openings altered true is = refl
+open_by f s l shown [] base second openings altered false is = refl
+open_by true s l shown (m ∷ staged) base second openings altered false is = absurd (cc is)
+open_by false s l shown (m ∷ staged) base second openings altered false is = refl
 
 -- where it isn't closed then, it did not fail
 zone_open : (f : Bool) (z : ZoneState) → (flushed_zone f z).closed ≡ false → kept_of (flushed_zone f z) ≡ held.kept_after_flush false (kept_of z)
-zone_open f z is = ap kept_of (open_by f z.setting z.loaded z.shown z.staged z.base z.second z.openings z.closed is) ∙ kept_flushed false z
+zone_open f z is = ap kept_of (open_by f z.setting z.loaded z.shown z.staged z.base z.second z.openings z.altered z.closed is) ∙ kept_flushed false z
 
 pub zone_at : (fails : List Bool) (zones : List ZoneState) (index : ℕ) (z : ZoneState) → length fails ≡ length zones → slice_get zones index ≡ Some z → (f : Bool) × (slice_get (flushed_zones fails zones) index ≡ Some (flushed_zone f z))
 zone_at [] [] index z long e = absurd (cc e)

@@ -1,17 +1,19 @@
 -- Devices that are opened one after the other, and what that is for a machine that stopped.
-use Rattle.std.proofs.Common.{◌≡◌, ◌+◌, ◌<◌, ◌≤◌, ℕ, zero, suc, inl, inr, List, [], ◌∷◌, ◌++◌, length, map, drop, refl, sym, ap, subst, ◌∙◌, arith}
+use Rattle.std.proofs.Common.{◌≡◌, ◌⊎◌, ◌+◌, ◌<◌, ◌≤◌, ℕ, zero, suc, inl, inr, ⊎_elim, List, [], ◌∷◌, ◌++◌, length, map, drop, refl, sym, ap, subst, ◌∙◌, arith}
 use Rattle.std.specs.Prelude.{slice_index_or}
 use Rattle.dns_names.specs.Name.{Labels}
 use Rattle.dns_zone.specs.Zone.{Zone}
 use Rattle.dns_sectors.specs.Device.{Content, LeavesOnly}
+use Rattle.dns_sectors.specs.Crash.{Write}
 use Rattle.dns_sectors.specs.declared.device.Sectors.{Ghosts}
 use Rattle.dns_sectors.proofs.Moments.{weaker, started}
+use Rattle.dns_layout.specs.Sector.{sector_at}
 use Rattle.dns_store.specs.Versions.{Shape, Kept, opened_again}
 use Rattle.dns_store.specs.Opens.{opens, fresh}
-use Rattle.dns_store.specs.Opening.{IsNotReopened, MayOpen, OpensAsPossible, StopsPossible, keeps}
+use Rattle.dns_store.specs.Opening.{IsNotReopened, MayOpen, NamesInUse, OpensAsPossible, StopsPossible, keeps}
 use Rattle.dns_store.specs.declared.kept_store.KeptStore.{KeptStore}
 use Rattle.dns_store.specs.declared.root.OpenError.{OpenError}
-use Rattle.dns_store.specs.declared.root.OpenError.TheVariants.{OutOfMemory}
+use Rattle.dns_store.specs.declared.root.OpenError.TheVariants.{Device, Blank, Damaged, Geometry, OutOfMemory}
 use Rattle.dns_versions.specs.declared.zone_versions.ZoneVersions.{ZoneVersions}
 use Rattle.dns_versions.specs.Each.{Each2}
 use Rattle.dns_versions.specs.Held.{HasVersions}
@@ -21,7 +23,7 @@ use Rattle.dns_primary.specs.Step.{Event}
 use Rattle.dns_primary.specs.Stop.{IsSetAnew, IsMaking, IsRecovered, AreRecovered, OpensAsRecovered, reopened_as}
 use Rattle.dns_primary.specs.Keeps.{HaveVersions, IsSet}
 use Rattle.dns_primary.proofs.Begun.{setting_of, allows_is}
-use Rattle.dns_primary.specs.Open.{shape_of, device_of_pending, StaysPossible, IsOpened, IsNotOpened, AreOpened, AreHandedBack, AreRefused, IsRecoverableAs, AreRecoverable, AreRecoverableAs, LeaveRecovered, IsRecoveryStopped}
+use Rattle.dns_primary.specs.Open.{shape_of, device_of_pending, StaysPossible, IsOpened, IsNotOpened, AreOpened, AreHandedBack, AreRefused, IsRecoverableAs, AreRecoverable, AreRecoverableAs, LeaveRecovered, NamesOneOf, IsRecoveryStopped}
 
 pub first_dropped : {A : Type 0} (xs : List A) (i : ℕ) (d : A) → slice_index_or (drop i xs) 0 d ≡ slice_index_or xs i d
 first_dropped xs zero d = refl
@@ -110,6 +112,7 @@ module _ {D : Type 0} {g : Ghosts D} (tries : ℕ) (making : ℕ → Type 0) (z 
     base = r.base;
     so_far = r.so_far;
     second = r.second;
+    altered = r.altered;
     opened = r.opened;
     at_least = r.at_least;
     at_most = (let most = r.at_most in omega (arith, most));
@@ -127,6 +130,7 @@ module _ {D : Type 0} {g : Ghosts D} (tries : ℕ) (making : ℕ → Type 0) (z 
     base = r.base;
     so_far = r.so_far;
     second = r.second;
+    altered = r.altered;
     opened = r.opened;
     at_least = (let at = r.at_least in omega (arith, at, few));
     at_most = (let most = r.at_most in omega (arith, most));
@@ -167,14 +171,22 @@ module _ {D : Type 0} {g : Ghosts D} (tries : ℕ) (making : ℕ → Type 0) (z 
           leaves = λ c left. run.each c (counts_now e (g.moment d) c (stays.honest is.honest) run.later left);
         }
 
-  -- why it was not opened, by how often the machine says that it was
-  pub stopped_by : (error : OpenError) → StopsPossible g (shape_of a s) d error → IsNotReopened (z.openings + tries) error
+  -- why it was not opened, by how often the machine says that it was, or which sectors of it were altered
+  pub stopped_by : (error : OpenError) → StopsPossible g (shape_of a s) d error → IsNotReopened (z.openings + tries) error ⊎ NamesOneOf z.altered error
   stopped_by error stops =
       let there = is.leaves stops.0 stops.1 in
       let w = there.0 in
       let most = (there.1).at_most in
-      by w.openings most (stops.2 (reopened_as w) (subst (λ (x : Shape). opens x (reopened_as w) stops.0) (shape_is 0 tries w there.1) there.2))
+      ⊎_elim (λ again. inl (by w.openings most again)) (λ named. inr (subst (λ (ws : List Write). NamesOneOf ws error) (there.1).altered (names w error named)))
+      (stops.2 (reopened_as w) (subst (λ (x : Shape). opens x (reopened_as w) stops.0) (shape_is 0 tries w there.1) there.2))
     where
+      names : (w : ZoneState) (e : OpenError) → NamesInUse (shape_of a s) (reopened_as w) stops.0 e → NamesOneOf w.altered e
+      names w Device named = absurd named
+      names w Blank named = absurd named
+      names w (Damaged position) named = (position, sector_at stops.0 position, refl, named.0)
+      names w Geometry named = absurd named
+      names w OutOfMemory named = absurd named
+
       by : (n : ℕ) → n ≤ z.openings + tries → IsNotReopened n error → IsNotReopened (z.openings + tries) error
       by n most (inl device) = inl device
       by n most (inr (inl memory)) = inr (inl memory)
@@ -189,6 +201,7 @@ module _ {D : Type 0} {g : Ghosts D} (tries : ℕ) (making : ℕ → Type 0) (z 
     base = w.base;
     second = r.second i;
     openings = w.openings + 1;
+    altered = w.altered;
     closed = r.opened i;
   }
 
@@ -356,7 +369,7 @@ module _ {D : Type 0} (set_as : ZoneSpec → ZoneState → Type 0) (g : Ghosts D
 
     for_memory : (error : OpenError) (n : ℕ) (olds : List ZoneState) → error ≡ OutOfMemory → IsRecoveryStopped tries error n olds
     for_memory error n [] e = e
-    for_memory error zero (z ∷ olds) e = inr (inl e)
+    for_memory error zero (z ∷ olds) e = inl (inr (inl e))
     for_memory error (suc n) (z ∷ olds) e = for_memory error n olds e
 
     pub refused_held : (error : OpenError) (n : ℕ) (olds : List ZoneState) (apexes : List Labels) (settings : List ZoneSpec) (devices back : List D)

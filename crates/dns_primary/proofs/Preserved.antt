@@ -98,13 +98,14 @@ pub record IsSameBut (z w : ZoneState) : Type 0 where
   pub shown : w.shown ≡ z.shown
   pub staged : w.staged ≡ z.staged
   pub openings : w.openings ≡ z.openings
+  pub altered : w.altered ≡ z.altered
 
 same_rebased : (fails : Bool) (base : ℕ) (z : ZoneState) → IsSameBut z (rebased fails base z)
-same_rebased true base z = record { setting = refl; loaded = refl; shown = refl; staged = refl; openings = refl }
-same_rebased false base z = record { setting = refl; loaded = refl; shown = refl; staged = refl; openings = refl }
+same_rebased true base z = record { setting = refl; loaded = refl; shown = refl; staged = refl; openings = refl; altered = refl }
+same_rebased false base z = record { setting = refl; loaded = refl; shown = refl; staged = refl; openings = refl; altered = refl }
 
 same_zone : (z w : ZoneState) → w ≡ z → IsSameBut z w
-same_zone z w e = subst (λ (x : ZoneState). IsSameBut z x) (sym e) (record { setting = refl; loaded = refl; shown = refl; staged = refl; openings = refl })
+same_zone z w e = subst (λ (x : ZoneState). IsSameBut z x) (sym e) (record { setting = refl; loaded = refl; shown = refl; staged = refl; openings = refl; altered = refl })
 
 pub same_moved : (fails : Bool) (room : ℕ) (z w : ZoneState) → IsMovedUnlessClosed fails room z w → IsSameBut z w
 same_moved fails room z w (inl h) = same_zone z w h.2
@@ -114,7 +115,7 @@ pub same_lasts : (z w : ZoneState) → IsSameBut z w → Lasts z w
 same_lasts z w s = record { shape = ap (λ (x : Setting). x.shape) s.setting; loaded = s.loaded; more = []; shown = s.shown ∙ sym (append-nil z.shown) }
 
 pub same_updates : (z w : ZoneState) → IsSameBut z w → Same z w
-same_updates z w s = record { setting = s.setting; loaded = s.loaded; updates = λ i. s.shown i ++ s.staged i; openings = s.openings }
+same_updates z w s = record { setting = s.setting; loaded = s.loaded; updates = λ i. s.shown i ++ s.staged i; openings = s.openings; altered = s.altered }
 
 moved_preserves : (fails : List Bool) (old : Machine) (index : ℕ) (z w : ZoneState) → IsSound (flushed fails old) → slice_get (flushed fails old).zones index ≡ Some z → IsSameBut z w
     → Preserves (flushed fails old) (record (flushed fails old) { zones = slice_set (flushed fails old).zones index w }) []

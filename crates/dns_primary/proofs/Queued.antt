@@ -30,7 +30,7 @@ use Rattle.dns_primary.proofs.Zonewise.{number_is}
 use Rattle.dns_primary.proofs.Places.{set_same, map_set, map_get, at3, mid_set, right_set, push2}
 
 pub kept_staged : (made : Made) (z : ZoneState) → kept_of (with_staged made z) ≡ staged_with made.records (kept_of z)
-kept_staged made z = λ i. record { shape = z.setting.shape; loaded = z.loaded; shown = versions_of z.shown; staged = map-append (λ (x : Made). x.records) z.staged (made ∷ []) i; base = z.base; second = z.second; openings = z.openings; closed = z.closed }
+kept_staged made z = λ i. record { shape = z.setting.shape; loaded = z.loaded; shown = versions_of z.shown; staged = map-append (λ (x : Made). x.records) z.staged (made ∷ []) i; base = z.base; second = z.second; openings = z.openings; altered = z.altered; closed = z.closed }
 
 -- the reply waits, and the zone at the position has these versions
 pub record Waited (m : Machine) (a : Asked) (index : ℕ) (z : ZoneState) (rcode : Rcode) (versions : Kept) (ended : Machine × List Sent) : Type 0 where

@@ -14,7 +14,7 @@ module _ (update : Message) (address : IpAddr) (header : Header) (setting : Sett
   made = record { update = update; records = [] }
 
   abbrev zone : ZoneState
-  zone = record { setting = setting; loaded = []; shown = []; staged = made ∷ []; base = 0; second = None; openings = 0; closed = false }
+  zone = record { setting = setting; loaded = []; shown = []; staged = made ∷ []; base = 0; second = None; openings = 0; altered = []; closed = false }
 
   abbrev reply : To → Waits
   reply to = record { to = to; address = address; header = header; rcode = 0; zone = 0; serial = 0; updates = made ∷ [] }

@@ -103,9 +103,10 @@ pub record Same (z w : ZoneState) : Type 0 where
   pub loaded : w.loaded ≡ z.loaded
   pub updates : updates_of w ≡ updates_of z
   pub openings : w.openings ≡ z.openings
+  pub altered : w.altered ≡ z.altered
 
 pub same_itself : (z : ZoneState) → Same z z
-same_itself z = record { setting = refl; loaded = refl; updates = refl; openings = refl }
+same_itself z = record { setting = refl; loaded = refl; updates = refl; openings = refl; altered = refl }
 
 pub same_history : (z w : ZoneState) → Same z w → HasHistory z → HasHistory w
 same_history z w s h =
@@ -139,8 +140,8 @@ zone_flushed fails z =
       ];
     })
     (λ e. tested (IsFlushed z) fails (record z { closed = true }) (record z { shown = z.shown ++ z.staged; staged = [] })
-    (λ f. record { lasts = record { shape = refl; loaded = refl; more = []; shown = sym (append-nil z.shown) }; same = record { setting = refl; loaded = refl; updates = refl; openings = refl }; whole = inl refl })
-    (λ f. record { lasts = record { shape = refl; loaded = refl; more = z.staged; shown = refl }; same = record { setting = refl; loaded = refl; updates = append-nil (z.shown ++ z.staged); openings = refl }; whole = inr refl }))
+    (λ f. record { lasts = record { shape = refl; loaded = refl; more = []; shown = sym (append-nil z.shown) }; same = record { setting = refl; loaded = refl; updates = refl; openings = refl; altered = refl }; whole = inl refl })
+    (λ f. record { lasts = record { shape = refl; loaded = refl; more = z.staged; shown = refl }; same = record { setting = refl; loaded = refl; updates = append-nil (z.shown ++ z.staged); openings = refl; altered = refl }; whole = inr refl }))
 
 -- one update more, judged on the newest version
 pub history_more : (s : Shape) (number : ℕ) (records : List Record) (updates : List Made) (made : Made) → IsHistory s number records updates

@@ -11,7 +11,8 @@ use Rattle.dns_primary.specs.Machine.{ZoneState, Machine, kept_of}
 use Rattle.dns_primary.specs.Keeps.{IsSet}
 use Rattle.dns_primary.specs.Runs.{HasHistory}
 
--- The zone is as it was loaded: no update was accepted. Its store was opened once.
+-- The zone is as it was loaded: no update was accepted. Its store was opened once, and no sector of it was
+-- altered.
 pub record IsLoaded (zone : Zone) (settings : ZoneSpec) (z : ZoneState) : Type 0 where
   pub shape : z.setting.shape
       ≡ record { apex = zone.apex; snapshot = settings.snapshot; journal = settings.journal }
@@ -22,6 +23,7 @@ pub record IsLoaded (zone : Zone) (settings : ZoneSpec) (z : ZoneState) : Type 0
   pub base : z.base ≡ 0
   pub second : z.second ≡ None
   pub openings : z.openings ≡ 1
+  pub altered : z.altered ≡ []
   pub opened : z.closed ≡ false
 
 -- A machine of these zones to which nothing has happened.

@@ -6,6 +6,7 @@ use Rattle.std.specs.declared.net.ip_addr.IpAddr.{IpAddr}
 use Rattle.dns_records.specs.Record.{Record}
 use Rattle.dns_zone.specs.Zone.{Zone}
 use Rattle.dns_wire.specs.Message.{Header, Message}
+use Rattle.dns_sectors.specs.Crash.{Write}
 use Rattle.dns_store.specs.Versions.{Shape, Kept, Versions}
 use Rattle.dns_transfer.specs.Session.{Sending}
 use Rattle.dns_versions.specs.Held.{shown_zone}
@@ -27,7 +28,8 @@ pub record Made : Type 0 where
 
 -- A zone: its records as loaded, the updates of the version that is shown, and those staged after it. `base`
 -- is the number of the version that its journal begins at; `second` is that of another, left by a checkpoint
--- that failed. `openings` is how often its store was opened. Where its device failed it is closed.
+-- that failed. `openings` is how often its store was opened. `altered` are sectors of its device that were
+-- altered, as they stand. Where its device failed it is closed.
 pub record ZoneState : Type 0 where
   pub setting : Setting
   pub loaded : List Record
@@ -36,6 +38,7 @@ pub record ZoneState : Type 0 where
   pub base : ℕ
   pub second : Option ℕ
   pub openings : ℕ
+  pub altered : List Write
   pub closed : Bool
 
 abbrev pub updates_of : ZoneState → List Made
@@ -54,6 +57,7 @@ kept_of z = record {
   base = z.base;
   second = z.second;
   openings = z.openings;
+  altered = z.altered;
   closed = z.closed;
 }
 

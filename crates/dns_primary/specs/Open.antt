@@ -3,6 +3,7 @@ use Rattle.std.specs.Prelude.{◌≡◌, ◌⊎◌, ◌+◌, ℕ, zero, suc, Lis
 use Rattle.dns_names.specs.Name.{Labels}
 use Rattle.dns_zone.specs.Zone.{Zone}
 use Rattle.dns_sectors.specs.Device.{Content, LeavesOnly}
+use Rattle.dns_sectors.specs.Crash.{Write}
 use Rattle.dns_sectors.specs.declared.device.Sectors.{Ghosts}
 use Rattle.dns_layout.specs.Own.{IsIntactIn, IsAltered}
 use Rattle.dns_layout.specs.Sector.{sector_at}
@@ -20,7 +21,7 @@ use Rattle.dns_store.specs.declared.zone_store.ZoneStore as kept
 use Rattle.dns_zone.specs.declared.index.ZoneIndex as zone_index
 use Rattle.dns_primary.specs.declared.primary.Primary.{Primary}
 use Rattle.dns_store.specs.declared.root.OpenError.{OpenError}
-use Rattle.dns_store.specs.declared.root.OpenError.TheVariants.{Device, OutOfMemory}
+use Rattle.dns_store.specs.declared.root.OpenError.TheVariants.{Damaged, Device, OutOfMemory}
 use Rattle.dns_versions.specs.declared.zone_versions.ZoneVersions.{ZoneVersions}
 use Rattle.dns_versions.specs.Held.{HasVersions}
 use Rattle.dns_primary.specs.declared.open.NotOpened.{NotOpened}
@@ -78,12 +79,12 @@ OfSpoilt g shape device says =
     → IsSectorRead shape (g.seen device) index
     → (IsIntactIn Two index (sector_at (g.seen device) index) → ⊥) → says index
 
--- This is said of each content that opens as these versions and of which the device's has some sectors
--- altered, none to zeros or to one that is its own.
+-- This is said of each content that opens as these versions, with no sector altered, and of which the
+-- device's has some sectors altered, none to zeros or to one that is its own.
 abbrev pub OfAltered : {D : Type 0} → Ghosts D → Shape → D → (Content → Opened → Type 0) → Type 0
 OfAltered g shape device says =
     g.is_honest device → IsInRange shape.snapshot shape.journal → (c : Content) (o : Opened)
-    → opens shape o c → IsAltered Two c (g.seen device) → says c o
+    → opens shape o c → o.altered ≡ [] → IsAltered Two c (g.seen device) → says c o
 
 -- The first sector of the device is a root of that zone and these sizes, and of the sectors that reading
 -- reaches each is zeros or its own.
@@ -104,7 +105,8 @@ pub record IsOpened {D I : Type 0} {g : Ghosts D} (apex : Labels) (s : ZoneSpec)
       → TakesDevice (shape_of apex s) device zone b
 
 -- The device was not opened, for this reason: where each crash leaves a store that opens, the device failed,
--- memory was refused or the store was opened too often; else the reason is in what is stored on the device.
+-- memory was refused, the store was opened too often, or a sector in use was altered, and is named; else the
+-- reason is in what is stored on the device.
 -- A sector that is neither zeros nor its own is named where reading reaches it, and where some were altered,
 -- one of them. The device was only read and synced, unless it failed.
 pub record IsNotOpened {D : Type 0} (g : Ghosts D) (apex : Labels) (s : ZoneSpec)
@@ -212,11 +214,18 @@ LeaveRecovered g tries m event index (z ∷ zones) (d ∷ olds) (e ∷ news) =
     × LeaveRecovered g tries m event (suc index) zones olds news
 LeaveRecovered g tries m event index _ _ _ = ⊥
 
+-- One of these sectors is named.
+abbrev pub NamesOneOf : List Write → OpenError → Type 0
+NamesOneOf ws error =
+    (position : ℕ) × (x : List ℕ) × (error ≡ Damaged position) × store.IsOneOf ws position x
+
 -- The device of the zone there of a stopped machine failed, memory was refused, or its store was opened too
--- often: as often as the machine says, and as there were tries since.
+-- often: as often as the machine says, and as there were tries since; or a sector of it that was altered is
+-- named.
 abbrev pub IsRecoveryStopped : ℕ → OpenError → ℕ → List ZoneState → Type 0
 IsRecoveryStopped tries error index [] = error ≡ OutOfMemory
-IsRecoveryStopped tries error zero (z ∷ zones) = store.IsNotReopened (z.openings + tries) error
+IsRecoveryStopped tries error zero (z ∷ zones) =
+    store.IsNotReopened (z.openings + tries) error ⊎ NamesOneOf z.altered error
 IsRecoveryStopped tries error (suc n) (z ∷ zones) = IsRecoveryStopped tries error n zones
 
 -- The primary is the machine, which stopped within the event so many tries ago, and recovered.

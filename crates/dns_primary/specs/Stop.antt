@@ -31,6 +31,7 @@ pub record IsRecovered (least most : ℕ) (making : ℕ → Type 0) (old new : Z
   pub base : (new.base ≡ old.base) ⊎ ((old.second ≡ Some new.base) ⊎ making new.base)
   pub so_far : new.base ≤ length new.shown
   pub second : new.second ≡ None
+  pub altered : new.altered ≡ old.altered
   pub opened : new.closed ≡ false
   pub at_least : old.openings + least ≤ new.openings
   pub at_most : new.openings ≤ old.openings + most
@@ -65,8 +66,13 @@ pub record IsConfigured (old new : Machine) : Type 0 where
 
 -- What a zone's device opens as where nothing of the zone is staged.
 abbrev pub reopened_as : ZoneState → Opened
-reopened_as z =
-    record { loaded = z.loaded; versions = versions_of z.shown; base = z.base; openings = z.openings }
+reopened_as z = record {
+  loaded = z.loaded;
+  versions = versions_of z.shown;
+  base = z.base;
+  openings = z.openings;
+  altered = z.altered;
+}
 
 -- The content of a device opens as a zone that this one may be recovered as, whose store was opened at most
 -- so often since.

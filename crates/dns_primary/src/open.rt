@@ -147,10 +147,11 @@ fn open_all<D: Sectors + Drop, I: ZoneIndex>(
 impl<D: Sectors + Drop, I: ZoneIndex> Primary<I, KeptStore<D, I>> {
     /// Opens the devices of zones with these names and settings, all in one order, one after the other.
     ///
-    /// Where the store of one is refused, all devices are handed back, in the order in which they came: those
+    /// If the store of one is refused, all devices are handed back, in the order in which they came: those
     /// before it were opened and those after it are as they were. On the devices of a machine that stopped,
-    /// however often recovery was itself stopped or refused before, it is refused only where that zone's
-    /// device failed, where memory was refused, or where that store was opened 2^64 - 1 times.
+    /// however often recovery was itself stopped or refused before, it is refused only if that zone's device
+    /// failed, if memory was refused, if that store was opened 2^64 - 1 times, or if a sector of it that is in
+    /// use was altered, which is then named.
     pub fn open(
         alloc: Heap,
         devices: Vec<D, Heap>,

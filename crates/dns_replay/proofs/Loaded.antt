@@ -62,7 +62,7 @@ module _ {D : Type 0} (g : Ghosts D) (m : Machine) where
     range = made.range;
     honest = made.honest;
     leaves = λ c left.
-        let opened : first_of y.records ≡ reopened_as (unopened z) = λ i. record { loaded = sym is.loaded i; versions = versions_of (sym is.shown i); base = sym is.base i; openings = 0 } in
+        let opened : first_of y.records ≡ reopened_as (unopened z) = λ i. record { loaded = sym is.loaded i; versions = versions_of (sym is.shown i); base = sym is.base i; openings = 0; altered = sym is.altered i } in
         let recovered : IsRecovered 0 0 making (unopened z) (unopened z) = record {
           setting = refl;
           loaded = refl;
@@ -74,6 +74,7 @@ module _ {D : Type 0} (g : Ghosts D) (m : Machine) where
           base = inl refl;
           so_far = omega (arith, is.base);
           second = is.second;
+          altered = refl;
           opened = is.opened;
           at_least = omega arith;
           at_most = omega arith;
@@ -137,6 +138,7 @@ same_zone m index y s z w is r =
       base = base i;
       second = (r.second ∙ sym is.second) i;
       openings = once i;
+      altered = r.altered i;
       closed = (r.opened ∙ sym is.opened) i;
     }
 

@@ -6,6 +6,7 @@ use Rattle.dns_records.specs.Record.{Record, plain}
 use Rattle.dns_zone.specs.Zone.{Zone}
 use Rattle.dns_changes.specs.Change.{Change}
 use Rattle.dns_sectors.specs.Device.{Content, LeavesOnly}
+use Rattle.dns_sectors.specs.Crash.{Write, SomeApplied}
 use Rattle.dns_sectors.specs.declared.device.Sectors.{Ghosts}
 use Rattle.dns_sectors.proofs.Moments.{joined, weaker}
 use Rattle.dns_layout.specs.Forms.{SaysRootIn}
@@ -17,7 +18,8 @@ use Rattle.dns_layout.specs.Sector.{sector_at, tag, blank, root_tag, root_tag_in
 use Rattle.dns_store.specs.Formats.{IsFormat}
 use Rattle.dns_store.specs.declared.device_format.DeviceFormat.{DeviceFormat}
 use Rattle.dns_store.specs.declared.device_format.DeviceFormat.TheVariants as kinds
-use Rattle.dns_layout.specs.Store.{Stored, OpensAsIn, OpensByIn, version_of}
+use Rattle.dns_layout.specs.Own.{NoneIntact}
+use Rattle.dns_layout.specs.Store.{Sizes, Stored, OpensAs, OpensAsIn, OpensByIn, IsTidy, version_of}
 use Rattle.dns_layout.specs.declared.format.Format.TheVariants.{One, Two}
 use Rattle.dns_layout.specs.declared.root.Root.{Root}
 use Rattle.dns_journal.specs.State.{IsOpenedTimes}
@@ -25,7 +27,6 @@ use Rattle.dns_journal.specs.Bank.{IsTurned}
 use Rattle.dns_journal.specs.Converting.{StaysOrConverts}
 use Rattle.dns_store.specs.Versions.{Versions, Shape, Opened, newest_after, moved_to}
 use Rattle.dns_store.specs.Opens.{IsPartOf, IsPartOfIn, base_of, durable_part, fresh, opens, sizes_of}
-use Rattle.dns_store.proofs.Leaves.{part_opened}
 use Rattle.dns_store.specs.Recovered.{AreLed}
 use Rattle.dns_store.specs.Plain.{sectors_of_snapshot}
 use Rattle.dns_store.specs.Checkpoint.{AllZones, IsBaseOf, IsNextBase}
@@ -35,6 +36,7 @@ use Rattle.dns_store.proofs.Places.{versions_behind}
 use Rattle.dns_store.proofs.Moving.{AllFit, fit_last, led_count, newest_on, part_turned}
 use Rattle.dns_store.proofs.Lent.{led_take, led_drop, zones_of, zones_take}
 use Rattle.dns_store.proofs.Opening.{stands_first}
+use Rattle.dns_store.proofs.Entering.{unaltered}
 
 pub one_choice : (s j : ℕ) (base : List Record) (vs : Versions) (n m : ℕ) → IsChosen s j base vs n → IsChosen s j base vs m → n ≡ m
 one_choice s j base vs n m a b = omega (arith, a.most m b.may, b.most n a.may)
@@ -54,6 +56,29 @@ fits_not shape before after to wide =
     ap (λ (l : Versions). newest_after (base_of before) l) (take_all (length vs - 0) vs (omega arith)) ∙ whole_newest before in
     let fits = to.chosen.may.rooms 0 (omega arith) in
     omega (arith, wide, subst (λ (r : List Record). sectors_of_snapshot r ≤ shape.snapshot) last fits)
+
+-- the same stored, with no sector altered
+opens_unaltered : (s : Sizes) (c : Content) (k : Stored) → OpensAs s c k → OpensAs s c (record k { altered = [] })
+opens_unaltered s c k (root, parts, by) = (
+  root,
+  parts,
+  record {
+    size = by.size;
+    stands = by.stands;
+    valid = by.valid;
+    base = by.base;
+    count = by.count;
+    expected = by.expected;
+    placed = by.placed;
+    snapshot = by.snapshot;
+    zeros = by.zeros;
+    journal = by.journal;
+    own = by.own;
+  },
+)
+
+part_unaltered : (shape : Shape) (o : Opened) (s : Stored) (openings : ℕ) → IsPartOf shape o s → IsPartOf shape (record { loaded = o.loaded; versions = o.versions; base = o.base; openings = openings; altered = [] }) (record s { altered = [] })
+part_unaltered shape o s openings part = record { number = part.number; so_far = part.so_far; valid = part.valid; snapshot = part.snapshot; changes = part.changes; altered = refl }
 
 module _ (shape : Shape) (o : Opened) (s : Stored) (d : Content) (root : Root) (version : ℕ) (base : Zone) (changes : List Change) (read : IsReadOld shape o s d root version base changes) where
   abbrev vs : Versions
@@ -158,28 +183,41 @@ module _ (shape : Shape) (o : Opened) (s : Stored) (d : Content) (root : Root) (
     pub count_is : (m : ℕ) → m ≡ version - n → m + length (drop (length changes - n) changes) ≡ version_of s
     count_is m is = omega (arith, is, read.version_is, number, length-drop gone changes, long, behind, there, read.part.so_far)
 
-    -- What is stored after the turn is what is migrated.
+    -- What is stored after the turn is what is migrated: no sector was altered.
     pub migrated : (octets : List ℕ) (new : Stored) → IsBaseOf (fresh shape o) (length o.versions - n) octets (drop (length changes - n) changes) → IsTurned s octets (drop (length changes - n) changes) new
-        → (after : Opened) → IsMigrated shape o after → IsPartOf shape after new
+        → (after : Opened) → IsMigrated shape o after → IsPartOf shape after (record new { altered = [] })
     migrated octets new is turned after to =
         let same : to.kept ≡ n = one_choice shape.snapshot shape.journal (base_of o) vs to.kept n to.chosen choice in
         let position : next ≡ after.base = omega (arith, to.base, same) in
         let part = part_turned One (fresh shape o) s new next octets (drop gone changes) read.part fit is turned in
-        subst (λ (a : Opened). IsPartOf shape a new) (λ i. record { loaded = sym to.loaded i; versions = sym to.versions i; base = position i; openings = after.openings })
-        (part_opened shape (durable_part (moved_to next (fresh shape o))) after.openings new part)
+        subst (λ (a : Opened). IsPartOf shape a (record new { altered = [] })) (λ i. record { loaded = sym to.loaded i; versions = sym to.versions i; base = position i; openings = after.openings; altered = sym to.altered i })
+        (part_unaltered shape (durable_part (moved_to next (fresh shape o))) new after.openings part)
+
+    -- it opens so
+    pub migrated_opens : (octets : List ℕ) (new : Stored) → IsBaseOf (fresh shape o) (length o.versions - n) octets (drop (length changes - n) changes) → IsTurned s octets (drop (length changes - n) changes) new
+        → (after : Opened) → IsMigrated shape o after → (c : Content) → OpensAs (sizes_of shape) c new → IsTidy (sizes_of shape) c → IsOpenedTimes (root.open_count + 1) c → opens shape after c
+    migrated_opens octets new is turned after to c there tidy times = (
+      subst (λ (ws : List Write). NoneIntact ws) (sym to.altered) tt,
+      (
+        c,
+        subst (λ (ws : List Write). SomeApplied ws c c) (sym to.altered) refl,
+        (
+          record new { altered = [] },
+          opens_unaltered (sizes_of shape) c new there,
+          tidy,
+          migrated octets new is turned after to,
+          times ∙ ap (λ m. m + 1) openings ∙ sym to.openings,
+        ),
+      ),
+    )
 
     -- A crash leaves what was read, or what is migrated.
     pub converted : (zone : Zone) (octets lent : List ℕ) (m : ℕ) → m ≡ version - n → lent ≡ octets → IsNextBase base zone (take (length changes - n) vs) octets → (c : Content)
         → StaysOrConverts root m lent (drop (length changes - n) changes) d c → old_opens shape o c ⊎ ((after : Opened) → IsMigrated shape o after → opens shape after c)
     converted zone octets lent m m_is lent_is is c stays = ⊎_elim
         (λ same. inl (s, same.0, read.part, same.1 ∙ openings))
-        (λ turned. inr (λ after to. (
-          turned.0,
-          turned.2,
-          turned.3,
-          migrated lent turned.0 (subst (λ (l : List ℕ). IsBaseOf (fresh shape o) next l (drop gone changes)) (sym lent_is) (is_base zone octets is)) turned.1 after to,
-          turned.4 ∙ ap (λ m. m + 1) openings ∙ sym to.openings,
-        )))
+        (λ turned. inr (λ after to.
+        migrated_opens lent turned.0 (subst (λ (l : List ℕ). IsBaseOf (fresh shape o) next l (drop gone changes)) (sym lent_is) (is_base zone octets is)) turned.1 after to c turned.2 turned.3 turned.4))
         (stays (sizes_of shape) s (sector_at d 0) first.0 first.1 read.says (count_is m m_is))
 
     -- what `convert` is told
@@ -213,8 +251,8 @@ told_other x kinds.Two is other tagged = other refl
 told_other x kinds.Other is other tagged = is.2 tagged
 
 -- the root's tag tells the format
-pub new_tag : (shape : Shape) (o : Opened) (c : Content) → opens shape o c → tag (sector_at c 0) ≡ root_tag
-new_tag shape o c is = ap (λ (x : List ℕ). tag x) is.1.2.stands ∙ is.1.2.valid.tagged
+pub new_tag : (shape : Shape) (o : Opened) (c : Content) → opens shape o c × (o.altered ≡ []) → tag (sector_at c 0) ≡ root_tag
+new_tag shape o c both = let is = unaltered shape o c both.0 both.1 in ap (λ (x : List ℕ). tag x) is.1.2.stands ∙ is.1.2.valid.tagged
 
 pub old_tag : (shape : Shape) (o : Opened) (c : Content) → old_opens shape o c → tag (sector_at c 0) ≡ root_tag → ⊥
 old_tag shape o c is new = tags_differ (sym new ∙ ap (λ (x : List ℕ). tag x) is.1.2.stands ∙ is.1.2.valid.tagged)
@@ -249,6 +287,6 @@ module _ {D : Type 0} {g : Ghosts D} (shape : Shape) (old mid : D) (honest : g.i
           left,
           λ o is. ⊎_elim
               (λ there_new. absurd (not_new (new_tag shape o (g.seen old) there_new)))
-              (λ was. ⊎_elim (λ same. inr (was.0, same, was.2)) (λ becomes. inl (becomes o was.2)) (stays shape was.0 was.1.0 (read_there was.0 was.1.0 was.1.1 was.1.2 was.1.3)))
+              (λ was. ⊎_elim (λ same. inr (was.0, same, was.2)) (λ becomes. inl (becomes o was.2, was.2.altered)) (stays shape was.0 was.1.0 (read_there was.0 was.1.0 was.1.1 was.1.2 was.1.3)))
               is,
         ))

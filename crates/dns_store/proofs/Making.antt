@@ -3,7 +3,7 @@ use Rattle.std.proofs.Common.{◌≡◌, ◌⊎◌, inl, inr, ⊎_elim, ℕ, zer
 use Rattle.std.specs.Prelude.{get_or, slice_set}
 use Rattle.std.proofs.Math.Seq.{take-append_seam, drop-append_seam}
 use Rattle.std.proofs.lemmas.Bool.{cases_lt}
-use Rattle.std.proofs.lemmas.List.{get_or_past, length-set, take_all}
+use Rattle.std.proofs.lemmas.List.{length-set, take_all}
 use Rattle.std.specs.List.{flat_map}
 use Rattle.dns_records.specs.Record.{Record, plain}
 use Rattle.dns_zone.specs.Zone.{IsZone}
@@ -29,6 +29,7 @@ use Rattle.dns_journal.proofs.Encoded.{are_zeros}
 use Rattle.dns_store.specs.Versions.{Shape}
 use Rattle.dns_store.specs.Opens.{opens, sizes_of}
 use Rattle.dns_store.specs.Formatting.{IsGeometry, IsLaid, IsLaidTo, HasBlankRoot, IsFormatted, first_of, LeftByFormat, LeftByMaking}
+use Rattle.dns_store.proofs.Altered.{sector_past}
 use Rattle.dns_store.proofs.Parts.{are_from}
 
 -- Octets that are no head: zeros, and none.
@@ -43,10 +44,6 @@ unfolding tag head_tag_in
 none_no_head is =
     let letters : get_or {A = ℕ} (68 ∷ 80 ∷ 72 ∷ 50 ∷ []) 0 0 ≡ get_or {A = ℕ} (take 4 []) 0 0 = ap (λ (l : List ℕ). get_or l 0 0) (sym is) in
     absurd (omega (arith, letters))
-
-sector_past : (c : Content) (q : ℕ) → length c ≤ q → sector_at c q ≡ []
-unfolding sector_at
-sector_past c q le = get_or_past c q [] le
 
 parts_of : (octets n : ℕ) → n < snapshot_sectors octets → payload_room * n ≤ octets
 unfolding snapshot_sectors
@@ -155,7 +152,7 @@ module _ (s : Sizes) (octets : List ℕ) (r : Root) (new : IsNewRoot s octets r)
       each zero tagged = omega arith
       each (suc i) tagged = omega (arith, behind (suc i) (omega arith) tagged)
 
-  pub made_opens : OpensBy s c (sector_at c 0) (sectors_from c 1 (snapshot_sectors (length octets))) (record { base = 0; snapshot = octets; entries = [] })
+  pub made_opens : OpensBy s c (sector_at c 0) (sectors_from c 1 (snapshot_sectors (length octets))) (record { base = 0; snapshot = octets; entries = []; altered = [] })
   made_opens = record {
     size = made.size;
     stands = refl;
@@ -191,11 +188,18 @@ module _ (s : Sizes) (octets : List ℕ) (r : Root) (new : IsNewRoot s octets r)
 pub made_is : (shape : Shape) (records : List Record) (octets : List ℕ) (r : Root) → IsZone (record { apex = shape.apex; records = records }) → octets ≡ flat_map plain records → IsNewRoot (sizes_of shape) octets r → 8 ≤ shape.journal
     → snapshot_sectors (length octets) ≤ shape.snapshot → (c : Content) → IsFormatted r octets (all_sectors (sizes_of shape)) c → opens shape (first_of records) c
 made_is shape records octets r valid octets_are new some fits c made = (
-  record { base = 0; snapshot = octets; entries = [] },
-  (sector_at c 0, sectors_from c 1 (snapshot_sectors (length octets)), made_opens (sizes_of shape) octets r new some fits c made),
-  made_tidy (sizes_of shape) octets r new some fits c made,
-  record { number = refl; so_far = omega arith; valid = valid; snapshot = octets_are; changes = tt },
-  made.says.opened_is ∙ new.opened,
+  tt,
+  (
+    c,
+    refl,
+    (
+      record { base = 0; snapshot = octets; entries = []; altered = [] },
+      (sector_at c 0, sectors_from c 1 (snapshot_sectors (length octets)), made_opens (sizes_of shape) octets r new some fits c made),
+      made_tidy (sizes_of shape) octets r new some fits c made,
+      record { number = refl; so_far = omega arith; valid = valid; snapshot = octets_are; changes = tt; altered = refl },
+      made.says.opened_is ∙ new.opened,
+    ),
+  ),
 )
 
 -- one sector more after the root

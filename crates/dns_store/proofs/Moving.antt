@@ -9,8 +9,10 @@ use Rattle.dns_changes.specs.Change.{Change}
 use Rattle.dns_changes.specs.Entry.{HasEntry}
 use Rattle.dns_changes.specs.Applied.{change_is_one}
 use Rattle.dns_sectors.specs.Device.{Content, LeavesOnly}
+use Rattle.dns_sectors.specs.Crash.{Write, SomeApplied}
 use Rattle.dns_sectors.specs.declared.device.Sectors.{Ghosts}
 use Rattle.dns_sectors.proofs.Moments.{started, weaker}
+use Rattle.dns_layout.specs.Own.{NoneIntact}
 use Rattle.dns_layout.specs.Journal.{Entry}
 use Rattle.dns_layout.specs.Store.{Sizes, Stored, OpensAs, IsTidy}
 use Rattle.dns_journal.specs.Bank.{AreEntries, IsTurned, LeavesEither}
@@ -131,27 +133,39 @@ part_turned f k s turned base octets changes part fit is turn =
       valid = subst (λ (v : List Record). IsZone (record { apex = k.shape.apex; records = v })) on (changes_valid f k.shape.apex k.shape.snapshot gone old (drop k.base k.shown) s.entries part.valid part.changes);
       snapshot = turn.snapshot ∙ is.octets_are;
       changes = changes_again f k.shape.apex k.shape.snapshot (version_at k base) (drop base k.shown) (drop gone s.entries) turned.entries changes are fit is.led turn.entries;
+      altered = turn.altered ∙ part.altered;
     }
 
 -- what is stored is the durable version, and nothing is lost
-left_of_stored : (k : Kept) (s : Stored) (c : Content) → OpensAs (sizes_of k.shape) c s → IsTidy (sizes_of k.shape) c → IsPartOf k.shape (durable_part k) s → IsOpenedTimes k.openings c → OpensAsLeft opens k c
-left_of_stored k s c opens_by tidy part opened =
-    (durable_part k, record { loaded = refl; kept = []; lost = k.staged; front = refl; versions = sym (append-nil k.shown); base = inl refl; openings = refl }, (s, opens_by, tidy, part, opened))
+left_of_stored : (k : Kept) (s : Stored) (c d : Content) → NoneIntact k.altered → SomeApplied k.altered c d → OpensAs (sizes_of k.shape) c s → IsTidy (sizes_of k.shape) c → IsPartOf k.shape (durable_part k) s → IsOpenedTimes k.openings c → OpensAsLeft opens k d
+left_of_stored k s c d spoilt some opens_by tidy part opened =
+    (durable_part k, record { loaded = refl; kept = []; lost = k.staged; front = refl; versions = sym (append-nil k.shown); base = inl refl; openings = refl; altered = refl }, (spoilt, (c, some, (s, opens_by, tidy, part, opened))))
 
-pub either_left : (k : Kept) (s : Stored) (base : ℕ) (octets : List ℕ) (changes : List Change) → IsPartOf k.shape (durable_part k) s → IsBaseOf k base octets changes → (c : Content) → LeavesEither (sizes_of k.shape) s octets changes k.openings c → OpensAsEither opens k base c
-either_left k s base octets changes part is c (inl before, tidy, opened) = inl (left_of_stored k s c before tidy part opened)
-either_left k s base octets changes part is c (inr (turned, turn, after), tidy, opened) =
-    inr (left_of_stored (moved_to base k) turned c after tidy (part_turned Two k s turned base octets changes part (still_fit k s base part is.later) is turn) opened)
+module _ (k : Kept) (s : Stored) (base : ℕ) (octets : List ℕ) (changes : List Change) (spoilt : NoneIntact k.altered) (part : IsPartOf k.shape (durable_part k) s) (is : IsBaseOf k base octets changes) where
+  pub either_left : (d : Content) → LeavesEither (sizes_of k.shape) s octets changes k.openings d → OpensAsEither opens k base d
+  either_left d (c, some, (inl before, tidy, opened)) = inl (left_of_stored k s c d spoilt (subst (λ (ws : List Write). SomeApplied ws c d) part.altered some) before tidy part opened)
+  either_left d (c, some, (inr (turned, turn, after), tidy, opened)) =
+      inr (left_of_stored (moved_to base k) turned c d spoilt (subst (λ (ws : List Write). SomeApplied ws c d) part.altered some) after tidy (part_turned Two k s turned base octets changes part (still_fit k s base part is.later) is turn) opened)
 
--- ... for good, where the device failed
-pub between_left : (k : Kept) (s : Stored) (base : ℕ) (octets : List ℕ) (changes : List Change) → IsPartOf k.shape (durable_part k) s → IsBaseOf k base octets changes → (c : Content) → LeavesEither (sizes_of k.shape) s octets changes k.openings c → OpensAsLeft opens (closed_between base k) c
-between_left k s base octets changes part is c (inl before, tidy, opened) =
-    (durable_part k, record { loaded = refl; kept = []; lost = k.staged; front = refl; versions = sym (append-nil k.shown); base = inl refl; openings = refl }, (s, before, tidy, part, opened))
-between_left k s base octets changes part is c (inr (turned, turn, after), tidy, opened) = (
-  durable_part (moved_to base k),
-  record { loaded = refl; kept = []; lost = k.staged; front = refl; versions = sym (append-nil k.shown); base = inr refl; openings = refl },
-  (turned, after, tidy, part_turned Two k s turned base octets changes part (still_fit k s base part is.later) is turn, opened),
-)
+  -- ... for good, where the device failed
+  pub between_left : (d : Content) → LeavesEither (sizes_of k.shape) s octets changes k.openings d → OpensAsLeft opens (closed_between base k) d
+  between_left d (c, some, (inl before, tidy, opened)) = (
+    durable_part k,
+    record { loaded = refl; kept = []; lost = k.staged; front = refl; versions = sym (append-nil k.shown); base = inl refl; openings = refl; altered = refl },
+    (spoilt, (c, subst (λ (ws : List Write). SomeApplied ws c d) part.altered some, (s, before, tidy, part, opened))),
+  )
+  between_left d (c, some, (inr (turned, turn, after), tidy, opened)) = (
+    durable_part (moved_to base k),
+    record { loaded = refl; kept = []; lost = k.staged; front = refl; versions = sym (append-nil k.shown); base = inr refl; openings = refl; altered = refl },
+    (
+      spoilt,
+      (
+        c,
+        subst (λ (ws : List Write). SomeApplied ws c d) part.altered some,
+        (turned, after, tidy, part_turned Two k s turned base octets changes part (still_fit k s base part is.later) is turn, opened),
+      ),
+    ),
+  )
 
 nothing_staged : (apex : Labels) (room : ℕ) (before : List Record) (vs : Versions) (es : List Entry) → vs ≡ [] → AreChanges apex room before vs es → es ≡ []
 nothing_staged apex room before vs es none are = only es (subst (λ (l : Versions). AreChanges apex room before l es) none are)
@@ -169,7 +183,7 @@ module _ {D : Type 0} {g : Ghosts D} (old new : Journal D g) (k : Kept) (none : 
       → (is_closed old ≡ true → device_of new ≡ device_of old) → (closed : Bool) → KeepsVersionsBy old k closed → LeavesOnly g.moment g.left_since (device_of old) (device_of new) (OpensAsEither opens k base)
   turn_leaves only_now any still false (s, staged, kept) =
       weaker g.moment g.left_since (device_of old) (device_of new) (LeavesEither (sizes_of k.shape) s octets changes (opened_of old)) (OpensAsEither opens k base) (any (sizes_of k.shape) s (kept_bare s staged kept))
-      (λ c left. either_left k s base octets changes kept.part is c (subst (λ n. LeavesEither (sizes_of k.shape) s octets changes n c) kept.opened left))
+      (λ c left. either_left k s base octets changes kept.spoilt kept.part is c (subst (λ n. LeavesEither (sizes_of k.shape) s octets changes n c) kept.opened left))
   turn_leaves only_now any still true kept =
       subst (λ (d : D). LeavesOnly g.moment g.left_since (device_of old) d (OpensAsEither opens k base)) (sym (still kept.closed))
       (started g.moment g.left_since (device_of old) (OpensAsEither opens k base) (λ c left. inl (kept.left c (only_now (device_of old) c kept.honest left))))
@@ -177,7 +191,7 @@ module _ {D : Type 0} {g : Ghosts D} (old new : Journal D g) (k : Kept) (none : 
   pub turn_keeps : ((shape : Sizes) (s : Stored) → Keeps shape old s [] → (turned : Stored) × IsTurned s octets changes turned × Keeps shape new turned []) → opened_of new ≡ opened_of old → (is_closed old ≡ true → ⊥) → (closed : Bool) → KeepsVersionsBy old k closed → KeepsVersionsBy new (moved_to base k) closed
   turn_keeps turn same not false (s, staged, kept) =
       let after = turn (sizes_of k.shape) s (kept_bare s staged kept) in
-      (after.0, [], record { keeps = after.2; opened = same ∙ kept.opened; part = part_turned Two k s after.0 base octets changes kept.part (still_fit k s base kept.part is.later) is after.1; changes = subst (λ (vs : Versions). AreChanges k.shape.apex k.shape.snapshot (newest_after k.loaded k.shown) vs []) (sym none) tt })
+      (after.0, [], record { keeps = after.2; opened = same ∙ kept.opened; spoilt = kept.spoilt; part = part_turned Two k s after.0 base octets changes kept.part (still_fit k s base kept.part is.later) is after.1; changes = subst (λ (vs : Versions). AreChanges k.shape.apex k.shape.snapshot (newest_after k.loaded k.shown) vs []) (sym none) tt })
   turn_keeps turn same not true kept = absurd (not kept.closed)
 
   pub turn_closes : ((d : D) (t : ℕ) (c : Content) → g.is_honest d → t ≤ g.moment d → g.may_leave d c → g.left_since d t c)
@@ -193,7 +207,7 @@ module _ {D : Type 0} {g : Ghosts D} (old new : Journal D g) (k : Kept) (none : 
           honest = still_honest;
           left_is = left ∙ left_kept old k s staged kept;
           number_is = number ∙ number_kept old k s staged kept;
-          left = λ c now. between_left k s base octets changes kept.part is c
+          left = λ c now. between_left k s base octets changes kept.spoilt kept.part is c
               (subst (λ n. LeavesEither (sizes_of k.shape) s octets changes n c) kept.opened (run.each c (counts_now (device_of new) (g.moment (device_of old)) c still_honest run.later now)));
         },
       )

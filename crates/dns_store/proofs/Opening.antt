@@ -23,8 +23,9 @@ use Rattle.dns_store.specs.declared.root.OpenError.{OpenError}
 use Rattle.dns_store.specs.declared.root.OpenError.TheVariants.{Device, Blank, Damaged, Geometry, OutOfMemory}
 use Rattle.dns_store.specs.Root.{RootRefusalIn, open_error, IsFoundRootIn, OpenRefusalIn, IsOfBank}
 use Rattle.dns_store.specs.Snapshot.{IsBadSnapshotIn}
-use Rattle.dns_store.specs.Opening.{IsNotReopened}
-use Rattle.dns_store.specs.Damage.{NamesSpoiltIn, NamesAlteredIn}
+use Rattle.dns_store.specs.Versions.{Shape}
+use Rattle.dns_store.specs.Opening.{NamesUsedIn, RefusesAltered}
+use Rattle.dns_store.specs.Damage.{NamesSpoiltIn, NamesAlteredIn, bank_at, bank_until}
 use Rattle.dns_store.proofs.Parts.{no_wrong_part, no_wrong_tail}
 
 labels_are : (name : Labels) → AllByRecursion IsLower name → AllByRecursion HasLabelLength name
@@ -56,19 +57,19 @@ module _ (f : Format) where
     root_intact : IsIntactIn f 0 (sector_at c 0)
     root_intact = by.own 0 (omega arith) (λ left. absurd (omega (arith, left.from)))
 
-    pub root_there : IsPlainApex s.apex → (count : ℕ) → count ≡ length c → (e : OpenError) → (e ≡ Device) ⊎ NamesSpoiltIn f d 0 1 e ⊎ RootRefusalIn f s count (sector_at c 0) e → IsNotReopened (open_count (sector_at c 0)) e ⊎ NamesAlteredIn f c d e
-    root_there plain count size e (inl failed) = inl (inl failed)
-    root_there plain count size Device (inr (inl spoilt)) = absurd spoilt
-    root_there plain count size Blank (inr (inl spoilt)) = absurd spoilt
-    root_there plain count size (Damaged position) (inr (inl spoilt)) =
+    pub root_there : (shape : Shape) → IsPlainApex s.apex → (count : ℕ) → count ≡ length c → (e : OpenError) → (e ≡ Device) ⊎ NamesSpoiltIn f d 0 1 e ⊎ RootRefusalIn f s count (sector_at c 0) e → RefusesAltered f shape c d e
+    root_there shape plain count size e (inl failed) = inl (inl failed)
+    root_there shape plain count size Device (inr (inl spoilt)) = absurd spoilt
+    root_there shape plain count size Blank (inr (inl spoilt)) = absurd spoilt
+    root_there shape plain count size (Damaged position) (inr (inl spoilt)) =
         let first : position ≡ 0 = omega (arith, spoilt.last) in
         let not : IsIntactIn f 0 (sector_at d 0) → ⊥ = λ own. spoilt.spoilt (subst (λ n. IsIntactIn f n (sector_at d n)) (sym first) own) in
-        inr (record { spoilt = spoilt.spoilt; other = subst (λ n. sector_at d n ≡ sector_at c n → ⊥) (sym first) (spoilt_altered f c d 0 root_intact not) })
-    root_there plain count size Geometry (inr (inl spoilt)) = absurd spoilt
-    root_there plain count size OutOfMemory (inr (inl spoilt)) = absurd spoilt
-    root_there plain count size Device (inr (inr refusal)) = absurd refusal
-    root_there plain count size Blank (inr (inr refusal)) = absurd (not_blank f (sector_at c 0) by.valid.tagged refusal)
-    root_there plain count size (Damaged position) (inr (inr refusal)) =
+        inr (record { spoilt = spoilt.spoilt; other = subst (λ n. sector_at d n ≡ sector_at c n → ⊥) (sym first) (spoilt_altered f c d 0 root_intact not) }, inl first)
+    root_there shape plain count size Geometry (inr (inl spoilt)) = absurd spoilt
+    root_there shape plain count size OutOfMemory (inr (inl spoilt)) = absurd spoilt
+    root_there shape plain count size Device (inr (inr refusal)) = absurd refusal
+    root_there shape plain count size Blank (inr (inr refusal)) = absurd (not_blank f (sector_at c 0) by.valid.tagged refusal)
+    root_there shape plain count size (Damaged position) (inr (inr refusal)) =
         ⊎_elim
         (λ (less : open_count (sector_at c 0) < 2 ^ 64 - 1).
         absurd
@@ -85,26 +86,31 @@ module _ (f : Format) where
           more = less;
         })))
         (λ worn. inl (inr (inr (ap (λ n. Damaged n) refusal.0, worn)))) (cases_lt (open_count (sector_at c 0)) (2 ^ 64 - 1))
-    root_there plain count size Geometry (inr (inr refusal)) = absurd (refusal.1 by.valid (size ∙ by.size))
-    root_there plain count size OutOfMemory (inr (inr refusal)) = absurd refusal
+    root_there shape plain count size Geometry (inr (inr refusal)) = absurd (refusal.1 by.valid (size ∙ by.size))
+    root_there shape plain count size OutOfMemory (inr (inr refusal)) = absurd refusal
 
-    -- a sector of the bank that isn't intact was altered
-    pub bank_altered : (from until : ℕ) → snapshot_place s (number (sector_at c 0)) ≤ from → until ≤ bank_end s (number (sector_at c 0)) → (r : OpenError) → NamesSpoiltIn f d from until r → NamesAlteredIn f c d r
-    bank_altered from until low high Device spoilt = spoilt
-    bank_altered from until low high Blank spoilt = spoilt
-    bank_altered from until low high (Damaged position) spoilt = record { spoilt = spoilt.spoilt; other = names_altered f s k c d (sector_at c 0) parts from until position by low high spoilt }
-    bank_altered from until low high Geometry spoilt = spoilt
-    bank_altered from until low high OutOfMemory spoilt = spoilt
+    -- a sector of the bank that isn't intact was altered, and is in use
+    pub bank_altered : (shape : Shape) (root : Root) → SaysRootIn f (sector_at d 0) root → (from until : ℕ) → snapshot_place s (number (sector_at c 0)) ≤ from → until ≤ bank_end s (number (sector_at c 0)) → bank_at shape root ≤ from → until ≤ bank_until shape root
+        → (r : OpenError) → NamesSpoiltIn f d from until r → NamesAlteredIn f c d r × NamesUsedIn f shape d r
+    bank_altered shape root says from until low high first last Device spoilt = (spoilt, spoilt)
+    bank_altered shape root says from until low high first last Blank spoilt = (spoilt, spoilt)
+    bank_altered shape root says from until low high first last (Damaged position) spoilt = (
+      record { spoilt = spoilt.spoilt; other = names_altered f s k c d (sector_at c 0) parts from until position by low high spoilt },
+      inr (root, says, omega (arith, first, spoilt.first), omega (arith, last, spoilt.last)),
+    )
+    bank_altered shape root says from until low high first last Geometry spoilt = (spoilt, spoilt)
+    bank_altered shape root says from until low high first last OutOfMemory spoilt = (spoilt, spoilt)
 
-    pub snapshot_there : (at : ℕ) → at ≡ snapshot_place s (number (sector_at c 0)) → (size : ℕ) → size ≤ s.snapshot → (e : ReadError) (r : OpenError) → r ≡ open_error e → NamesSpoilt f d at (at + size) e ⊎ IsBadSnapshotIn f (sector_at c 0) at c e → IsNotReopened (open_count (sector_at c 0)) r ⊎ NamesAlteredIn f c d r
-    snapshot_there at position size le ReadError.Device r is bad = inl (inl is)
-    snapshot_there at position size le (ReadError.Damaged n) r is (inl spoilt) =
-        inr (bank_altered at (at + size) (omega (arith, position)) (omega (arith, position, le)) r (subst (λ (q : OpenError). NamesSpoiltIn f d at (at + size) q) (sym is) spoilt))
-    snapshot_there at position size le (ReadError.Damaged n) r is (inr bad) =
+    pub snapshot_there : (shape : Shape) (root : Root) → SaysRootIn f (sector_at d 0) root → (at : ℕ) → at ≡ snapshot_place s (number (sector_at c 0)) → at ≡ bank_at shape root → (size : ℕ) → size ≤ s.snapshot → size ≤ shape.snapshot → (e : ReadError) (r : OpenError) → r ≡ open_error e
+        → NamesSpoilt f d at (at + size) e ⊎ IsBadSnapshotIn f (sector_at c 0) at c e → RefusesAltered f shape c d r
+    snapshot_there shape root says at position there size le fits ReadError.Device r is bad = inl (inl is)
+    snapshot_there shape root says at position there size le fits (ReadError.Damaged n) r is (inl spoilt) =
+        inr (bank_altered shape root says at (at + size) (omega (arith, position)) (omega (arith, position, le)) (omega (arith, there)) (omega (arith, there, fits)) r (subst (λ (q : OpenError). NamesSpoiltIn f d at (at + size) q) (sym is) spoilt))
+    snapshot_there shape root says at position there size le fits (ReadError.Damaged n) r is (inr bad) =
         absurd
         (⊎_elim (λ part. no_wrong_part f s c (sector_at c 0) parts k by n part) (λ tail. no_wrong_tail f s c (sector_at c 0) parts k by n tail)
         (subst (λ q. IsBadSnapshotIn f (sector_at c 0) q c (ReadError.Damaged n)) position bad))
-    snapshot_there at position size le ReadError.OutOfMemory r is bad = inl (inr (inl is))
+    snapshot_there shape root says at position there size le fits ReadError.OutOfMemory r is bad = inl (inr (inl is))
 
     pub journal_there : (root : Root) → SaysRootIn f (sector_at c 0) root → (cursor : Cursor) → cursor.at ≡ journal_place s (number (sector_at c 0)) → cursor.until ≡ bank_end s (number (sector_at c 0)) → cursor.version ≡ root.base → cursor.opened ≡ root.bank_open → ReadsFrom f cursor c k.entries
     journal_there root says cursor at until version opened =

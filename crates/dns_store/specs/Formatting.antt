@@ -48,7 +48,7 @@ pub record IsFormatted (root : Root) (octets : List ℕ) (count : ℕ) (c : Cont
 
 -- what a new store opens as: its first version, whose number is 0; it was never opened
 abbrev pub first_of : List Record → Opened
-first_of records = record { loaded = records; versions = []; base = 0; openings = 0 }
+first_of records = record { loaded = records; versions = []; base = 0; openings = 0; altered = [] }
 
 -- A crash while a store is made leaves what it might have left before, a blank root, or the new store.
 abbrev pub LeftByFormat : {D : Type 0} → Ghosts D → Shape → List Record → D → Content → Type 0

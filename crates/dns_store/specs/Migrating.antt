@@ -40,6 +40,7 @@ pub record IsMigrated (shape : Shape) (before after : Opened) : Type 0 where
   pub versions : after.versions ≡ before.versions
   pub base : after.base + kept ≡ length before.versions
   pub openings : after.openings ≡ before.openings + 1
+  pub altered : after.altered ≡ []
 
 -- What a device of format 1 holds, as versions, and how often it was opened. Nothing is asked of it for later
 -- writing.
@@ -48,11 +49,12 @@ old_opens shape o c =
     (s : Stored) × OpensAsIn One (sizes_of shape) c s × IsPartOfIn One shape o s
     × IsOpenedTimes o.openings c
 
--- `migrate` and then `open` open the content as these versions: what format 2 holds as it is, and what format
--- 1 holds with the base that is chosen.
+-- `migrate` and then `open` open the content, of which no sector was altered, as these versions: what format
+-- 2 holds as it is, and what format 1 holds with the base that is chosen.
 abbrev pub opens_migrated : Shape → Opened → Content → Type 0
 opens_migrated shape o c =
-    opens shape o c ⊎ ((before : Opened) × old_opens shape before c × IsMigrated shape before o)
+    (opens shape o c × (o.altered ≡ []))
+    ⊎ ((before : Opened) × old_opens shape before c × IsMigrated shape before o)
 
 -- Each crash leaves a store, in one of the formats, that has room in format 2.
 abbrev pub MayMigrate : {D : Type 0} → Ghosts D → Shape → D → Type 0

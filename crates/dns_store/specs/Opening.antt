@@ -1,12 +1,13 @@
 -- What opening a store finds, and what it leaves of the device.
-use Rattle.std.specs.Prelude.{◌≡◌, ◌⊎◌, ◌≤◌, ◌<◌, ◌+◌, ◌-◌, ◌*◌, ◌^◌, ℕ, List, drop, length}
+use Rattle.std.specs.Prelude.{◌≡◌, ◌⊎◌, ◌≤◌, ◌<◌, ◌+◌, ◌-◌, ◌*◌, ◌^◌, ℕ, List, [], ◌∷◌, drop, length}
 use Rattle.std.specs.Prelude.{Result, MatchResult}
 use Rattle.dns_records.specs.Record.{Record}
 use Rattle.dns_changes.specs.Change.{Change}
 use Rattle.dns_sectors.specs.Device.{Content, Only, LeavesOnly}
+use Rattle.dns_sectors.specs.Crash.{Write, SomeApplied}
 use Rattle.dns_layout.specs.Sector.{sector_at, number, open_count, bank_open}
 use Rattle.dns_layout.specs.Forms.{SaysRoot, SaysRootIn}
-use Rattle.dns_layout.specs.Own.{IsIntactIn, IsAltered}
+use Rattle.dns_layout.specs.Own.{NoneIntact, IsIntactIn, IsAltered}
 use Rattle.dns_layout.specs.Journal.{AllBehind, place_behind}
 use Rattle.dns_layout.specs.Store.{Sizes, Stored, OpensBy, IsRootIn, all_sectors, journal_place, bank_end}
 use Rattle.dns_layout.specs.Store.{OpensAsIn, version_of}
@@ -15,7 +16,7 @@ use Rattle.dns_layout.specs.declared.format.Format.TheVariants.{Two}
 use Rattle.dns_layout.specs.declared.root.Root.{Root}
 use Rattle.dns_journal.specs.declared.read.Cursor.{Cursor}
 use Rattle.dns_store.specs.declared.root.OpenError.{OpenError}
-use Rattle.dns_store.specs.declared.root.OpenError.TheVariants.{Device, Damaged, OutOfMemory}
+use Rattle.dns_store.specs.declared.root.OpenError.TheVariants.{Device, Blank, Damaged, Geometry, OutOfMemory}
 use Rattle.dns_store.specs.Versions.{Shape, Kept, Opened, newest_after, opened_again}
 use Rattle.dns_sectors.specs.declared.device.Sectors.{Ghosts}
 use Rattle.dns_journal.specs.State.{device_of, newest_number_of}
@@ -23,7 +24,7 @@ use Rattle.dns_zone.specs.Zone.{Zone}
 use Rattle.dns_store.specs.declared.kept_store.KeptStore.{KeptStore}
 use Rattle.dns_store.specs.declared.recovery.Recovered.{Recovered}
 use Rattle.dns_store.specs.Opens.{IsPartOf, IsPartOfIn, base_of, fresh, opens, sizes_of}
-use Rattle.dns_store.specs.Damage.{NamesAlteredIn, NamesAltered, IsReachedIn}
+use Rattle.dns_store.specs.Damage.{NamesAlteredIn, NamesAltered, IsReachedIn, bank_at, bank_until}
 use Rattle.dns_store.specs.Checkpoint.{IsBaseLent}
 use Rattle.dns_store.specs.Holding.{HoldsVersions}
 use Rattle.dns_store.specs.Recovered.{AreLed}
@@ -80,11 +81,30 @@ EachSpoilt g f shape device P =
 abbrev pub IsNotReopened : ℕ → OpenError → Type 0
 IsNotReopened openings e = (e ≡ Device) ⊎ (e ≡ OutOfMemory) ⊎ ((e ≡ Damaged 0) × (2 ^ 64 - 1 ≤ openings))
 
+-- The position is that of the root, or in the bank that the root names.
+abbrev pub IsSectorInUseIn : Format → Shape → Content → ℕ → Type 0
+IsSectorInUseIn f shape c position =
+    (position ≡ 0)
+    ⊎ ((r : Root) × SaysRootIn f (sector_at c 0) r × (bank_at shape r ≤ position)
+    × (position < bank_until shape r))
+
+abbrev pub IsSectorInUse : Shape → Content → ℕ → Type 0
+IsSectorInUse shape c position = IsSectorInUseIn Two shape c position
+
+-- The sector that is named is the root, or one of the bank that it names.
+abbrev pub NamesUsedIn : Format → Shape → Content → OpenError → Type 0
+NamesUsedIn f shape c Device = ⊥
+NamesUsedIn f shape c Blank = ⊥
+NamesUsedIn f shape c (Damaged position) = IsSectorInUseIn f shape c position
+NamesUsedIn f shape c Geometry = ⊥
+NamesUsedIn f shape c OutOfMemory = ⊥
+
 -- Why a device of which this content was altered is refused: as one that isn't opened again is, or by the
--- name of a sector that was altered.
-abbrev pub RefusesAltered : Format → Content → Content → OpenError → Type 0
-RefusesAltered f before now e =
-    IsNotReopened (open_count (sector_at before 0)) e ⊎ NamesAlteredIn f before now e
+-- name of a sector in use that was altered.
+abbrev pub RefusesAltered : Format → Shape → Content → Content → OpenError → Type 0
+RefusesAltered f shape before now e =
+    IsNotReopened (open_count (sector_at before 0)) e
+    ⊎ (NamesAlteredIn f before now e × NamesUsedIn f shape now e)
 
 -- Of each store of this shape on a content of which an honest device's is an altered one: all of it is read;
 -- or why it isn't.
@@ -94,7 +114,7 @@ ReadsAltered g f shape device result =
     g.is_honest device → IsInRange shape.snapshot shape.journal
     → (c : Content) → IsAltered f c (g.seen device)
     → (o : Opened) (s : Stored) → OpensAsIn f (sizes_of shape) c s → IsPartOfIn f shape o s
-    → MatchResult result (IsAllRead f shape c o s) (RefusesAltered f c (g.seen device))
+    → MatchResult result (IsAllRead f shape c o s) (RefusesAltered f shape c (g.seen device))
 
 -- Each crash leaves a store that opens.
 abbrev pub MayOpen : {D : Type 0} → Ghosts D → Shape → D → Type 0
@@ -108,10 +128,29 @@ OpensAsPossible g shape device c =
     (d : Content) × g.may_leave device d
     × ((o : Opened) → opens shape o d → opens shape o c ⊎ opens shape (opened_again o) c)
 
--- Why it isn't opened, by how often a content was opened that a crash might have left of the device before.
+-- It is one of these sectors, at its position.
+abbrev pub IsOneOf : List Write → ℕ → List ℕ → Type 0
+IsOneOf [] position x = ⊥
+IsOneOf (w ∷ ws) position x = ((position ≡ w.0) × (x ≡ w.1)) ⊎ IsOneOf ws position x
+
+-- A sector is named that was altered, and stands there so: the root, or one of the bank that it names.
+abbrev pub NamesInUse : Shape → Opened → Content → OpenError → Type 0
+NamesInUse shape o c Device = ⊥
+NamesInUse shape o c Blank = ⊥
+NamesInUse shape o c (Damaged position) =
+    IsOneOf o.altered position (sector_at c position) × IsSectorInUse shape c position
+NamesInUse shape o c Geometry = ⊥
+NamesInUse shape o c OutOfMemory = ⊥
+
+-- Why a content that opens as these versions isn't opened: as one isn't that was opened so often; or a sector
+-- in use was altered, and is named.
+abbrev pub IsNotOpenedAs : Shape → Opened → Content → OpenError → Type 0
+IsNotOpenedAs shape o c e = IsNotReopened o.openings e ⊎ NamesInUse shape o c e
+
+-- Why it isn't opened, of a content that a crash might have left of the device before.
 abbrev pub StopsPossible : {D : Type 0} → Ghosts D → Shape → D → OpenError → Type 0
 StopsPossible g shape device e =
-    (d : Content) × g.may_leave device d × ((o : Opened) → opens shape o d → IsNotReopened o.openings e)
+    (d : Content) × g.may_leave device d × ((o : Opened) → opens shape o d → IsNotOpenedAs shape o d e)
 
 abbrev pub store_device : {D I : Type 0} {g : Ghosts D} → KeptStore D I g → D
 store_device store = device_of store.journal
@@ -135,17 +174,18 @@ KeepsFlushed store k = IsBaseLent store.journal store.base store.changes.items k
 abbrev pub keeps : {D I : Type 0} {g : Ghosts D} → KeptStore D I g → Kept → Type 0
 keeps store k = HoldsVersions store.journal store.base store.changes.items k
 
--- If the device is honest, all on it is durable, and it opens by the root as what is stored, with no head
--- ahead of that, and the cursor is past the last entry, and the base and the changes are those of the
--- versions that are stored: the store keeps these from here on.
+-- If the device is honest, all on it is durable, and but for sectors that were altered it opens by the root
+-- as what is stored, with no head ahead of that, and the cursor is past the last entry, and the base and the
+-- changes are those of the versions that are stored: the store keeps these from here on.
 abbrev pub KeepsFrom : {D I : Type 0} {g : Ghosts D} → D → Cursor → Root → Zone → List Change
     → KeptStore D I g → Type 0
 KeepsFrom {D} {I} {g} device next root base changes store =
-    (shape : Shape) (o : Opened) (s : Stored) (x : List ℕ) (parts : List (List ℕ))
+    (shape : Shape) (o : Opened) (s : Stored) (x : List ℕ) (parts : List (List ℕ)) (c : Content)
     → g.is_honest device → Only (g.seen device) (g.may_leave device)
-    → OpensBy (sizes_of shape) (g.seen device) x parts s → SaysRoot x root
+    → NoneIntact s.altered → SomeApplied s.altered c (g.seen device)
+    → OpensBy (sizes_of shape) c x parts s → SaysRoot x root
     → bank_open x ≤ open_count x
-    → AllBehind (open_count x) (version_of s) (g.seen device) → IsPartOf shape o s
+    → AllBehind (open_count x) (version_of s) c → IsPartOf shape o s
     → next.until ≡ bank_end (sizes_of shape) (number x)
     → next.at ≡ place_behind (journal_place (sizes_of shape) (number x)) s.entries
     → next.version ≡ version_of s → next.opened ≡ open_count x → open_count x ≡ o.openings
@@ -189,6 +229,6 @@ OpensPossible {D} {I} {g} shape device result =
 abbrev pub AnswersAltered : {D I : Type 0} {g : Ghosts D} → Shape → D
     → Result (KeptStore D I g × Zone) (D × OpenError) → Type 0
 AnswersAltered {D} {I} {g} shape device result =
-    (c : Content) (o : Opened) → opens shape o c → IsAltered Two c (g.seen device)
+    (c : Content) (o : Opened) → opens shape o c → o.altered ≡ [] → IsAltered Two c (g.seen device)
     → MatchResult result (λ r. AnswersAs shape o r.0 r.1)
     (λ e. IsNotReopened o.openings e.1 ⊎ NamesAltered c (g.seen device) e.1)

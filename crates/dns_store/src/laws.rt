@@ -27,8 +27,8 @@ pub fn store_law<D: Sectors + Drop, I: ZoneIndex>()
 /// through all that is done with it: what `open` leaves at any moment of it, and what a store leaves of its
 /// device between two calls. (At any moment of a flush or a checkpoint a crash leaves some of its versions:
 /// `any_moment` of these says which.) So `open` succeeds on it but for a device that fails, memory that is
-/// refused, and a store that was opened 2^64 - 1 times. And every crash within `migrate` leaves what
-/// `migrate` takes up again.
+/// refused, a store that was opened 2^64 - 1 times, and an altered sector in use. And every crash within
+/// `migrate` leaves what `migrate` takes up again.
 pub fn opens_law<D: Sectors + Drop, I: ZoneIndex>()
     ensures formatted { (shape : Shape) (records : List Stated) (device : _)
         → ((c : List (List ℕ)) → D.may_leave device c → opens shape (first_of records) c)

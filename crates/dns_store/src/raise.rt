@@ -3,6 +3,7 @@
 ghost use Rattle.std.specs.Prelude.{◌≡◌, ◌≤◌, ◌<◌, ◌+◌, ◌-◌, ◌*◌, ◌^◌, ◌↔◌, true, OnOk};
 ghost use Rattle.dns_sectors.specs.Device.{Only, LeavesOnly, CountsFailure};
 ghost use Rattle.dns_layout.specs.Sector.{open_count};
+ghost use Rattle.dns_layout.specs.Own.{Altered};
 ghost use Rattle.dns_journal.specs.Phases.{IfSettled};
 ghost use Rattle.dns_store.specs.Turn.{EachToRaise, OpensRaised, StaysStored, other_bank_of};
 
@@ -18,7 +19,7 @@ pub(crate) fn raise_root<D: Sectors>(device: &mut D, root: &mut Root) -> Result<
     ensures any_moment { IfSettled D.Sectors device.old
         (LeavesOnly D.moment D.left_since device.old device.new (StaysStored (D.seen device.old) root.old)) }
     ensures raised { EachToRaise D.Sectors device.old root.old (λ s k x parts.
-        OnOk result (OpensRaised s k x parts root.new (D.seen device.new))) }
+        OnOk result (Altered k.altered (OpensRaised s k x parts root.new) (D.seen device.new))) }
     ensures durable { D.is_honest device.old
         → OnOk result (Only (D.seen device.new) (D.may_leave device.new)) }
     ensures root { root.new ≡ record root.old { open_count = root.old.open_count + 1; is_clear = true } }

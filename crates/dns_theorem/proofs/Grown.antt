@@ -89,7 +89,7 @@ place_held fails m f s =
 
 -- ---- a base that is moved
 same_on : (a b c : ZoneState) → Same a b → Same b c → Same a c
-same_on a b c p q = record { setting = q.setting ∙ p.setting; loaded = q.loaded ∙ p.loaded; updates = q.updates ∙ p.updates; openings = q.openings ∙ p.openings }
+same_on a b c p q = record { setting = q.setting ∙ p.setting; loaded = q.loaded ∙ p.loaded; updates = q.updates ∙ p.updates; openings = q.openings ∙ p.openings; altered = q.altered ∙ p.altered }
 
 still_on : (a b c : ZoneState) → IsStill a b → IsStill b c → IsStill a c
 still_on a b c p q = record { lasts = lasts_on a b c p.lasts q.lasts; same = same_on a b c p.same q.same }

@@ -20,6 +20,7 @@ opened_zone z more o = record {
   base = o.base;
   second = None;
   openings = o.openings + 1;
+  altered = o.altered;
   closed = false;
 }
 
@@ -28,9 +29,9 @@ record IsOpenedSo (z : ZoneState) (more : List Made) (o : Opened) : Type 0 where
   becomes : IsOpenedWith more z zone
   opened : IsReopenedAs zone o
 
-opened_so : (z : ZoneState) (more : List Made) (o : Opened) → z.staged ≡ [] → o.loaded ≡ z.loaded → o.versions ≡ versions_of z.shown ++ versions_of more → o.base ≤ length z.shown → o.openings ≡ z.openings
+opened_so : (z : ZoneState) (more : List Made) (o : Opened) → z.staged ≡ [] → o.loaded ≡ z.loaded → o.versions ≡ versions_of z.shown ++ versions_of more → o.base ≤ length z.shown → o.openings ≡ z.openings → (o.altered ≡ z.altered) ⊎ (o.altered ≡ [])
     → IsOpenedSo z more o
-opened_so z more o rests loaded versions so_far openings =
+opened_so z more o rests loaded versions so_far openings altered =
     let long = length-append z.shown more in
     let is : versions_of (z.shown ++ more) ≡ o.versions = versions_joined z.shown more ∙ sym versions in
     let within : o.base ≤ length (z.shown ++ more) = omega (arith, long, so_far) in
@@ -46,6 +47,7 @@ opened_so z more o rests loaded versions so_far openings =
         staged = refl;
         so_far = within;
         second = refl;
+        altered = altered;
         opened = refl;
         at_least = up;
         at_most = once;
@@ -58,6 +60,7 @@ opened_so z more o rests loaded versions so_far openings =
         base = o.base;
         second = None;
         openings = o.openings + 1;
+        altered = o.altered;
         closed = false;
       };
     }
@@ -79,12 +82,12 @@ module _ (z : ZoneState) (file : List Record) (base : ℕ) (o : Opened) (rests :
 
   kept_one : (kept lost : Versions) → file ∷ [] ≡ kept ++ lost → o.versions ≡ versions_of z.shown ++ kept → BecomesEither file z o
   kept_one [] lost e versions =
-      let so = opened_so z [] o rests left.loaded versions so_far left.openings in
+      let so = opened_so z [] o rests left.loaded versions so_far left.openings (inl left.altered) in
       (so.zone, inr so.becomes, so.opened)
   kept_one (x ∷ []) lost e versions =
       let same : file ≡ x = cc in
       let made : Made = record { update = empty_message; records = file } in
-      let so = opened_so z (made ∷ []) o rests left.loaded (versions ∙ ap (λ (v : List Record). versions_of z.shown ++ v ∷ []) (sym same)) so_far left.openings in
+      let so = opened_so z (made ∷ []) o rests left.loaded (versions ∙ ap (λ (v : List Record). versions_of z.shown ++ v ∷ []) (sym same)) so_far left.openings (inl left.altered) in
       (so.zone, inl (record { filed = filed; made = made; records = refl; opened = so.becomes }), so.opened)
   kept_one (x ∷ y ∷ kept) lost e versions = absurd cc
 
@@ -108,7 +111,7 @@ durable_becomes z file base o rests none within filed left =
     ∙ ap (λ (vs : Versions). (versions_of z.shown ++ (versions_of z.staged ++ file ∷ [])) ++ vs) kept
     ∙ append-nil (versions_of z.shown ++ (versions_of z.staged ++ file ∷ []))
     ∙ ap (λ (vs : Versions). versions_of z.shown ++ vs) staged in
-    let so = opened_so z (made ∷ []) o rests left.loaded versions (one_base (made_durable (staged_with file (moved_to base (kept_of z)))) o (length z.shown) none within left.base) left.openings in
+    let so = opened_so z (made ∷ []) o rests left.loaded versions (one_base (made_durable (staged_with file (moved_to base (kept_of z)))) o (length z.shown) none within left.base) left.openings (inl left.altered) in
     (so.zone, record { filed = filed; made = made; records = refl; opened = so.becomes }, so.opened)
 
 pub reopened_becomes : (z : ZoneState) (base : ℕ) (o : Opened) → z.staged ≡ [] → z.second ≡ None → base ≤ length z.shown → IsLeftOf (moved_to base (kept_of z)) o
@@ -117,7 +120,7 @@ reopened_becomes z base o rests none within left =
     let whole : [] ≡ left.kept ++ left.lost = sym (ap versions_of rests) ∙ left.front in
     let kept = no_more left.kept left.lost whole in
     let so = opened_so z [] o rests left.loaded (left.versions ∙ ap (λ (vs : Versions). versions_of z.shown ++ vs) kept)
-    (one_base (moved_to base (kept_of z)) o (length z.shown) none within left.base) left.openings in
+    (one_base (moved_to base (kept_of z)) o (length z.shown) none within left.base) left.openings (inl left.altered) in
     (so.zone, so.becomes, so.opened)
 
 none_made : (made : List Made) → versions_of made ≡ [] → made ≡ []
@@ -133,5 +136,5 @@ migrated_becomes z before after is m =
     let many : length (versions_of z.shown) ≡ length z.shown = length-map z.shown (λ (x : Made). x.records) in
     let as_many : length (versions_of z.shown) ≡ length before.versions = ap length versions in
     let base = m.base in
-    let so = opened_so z [] after rests (m.loaded ∙ sym loaded) (m.versions ∙ sym versions ∙ sym (append-nil (versions_of z.shown))) (omega (arith, many, as_many, base)) (m.openings ∙ sym openings) in
+    let so = opened_so z [] after rests (m.loaded ∙ sym loaded) (m.versions ∙ sym versions ∙ sym (append-nil (versions_of z.shown))) (omega (arith, many, as_many, base)) (m.openings ∙ sym openings) (inr m.altered) in
     (so.zone, so.becomes, so.opened)

@@ -50,7 +50,8 @@ abbrev pub loading : ZoneState → List Record → ℕ → Kept
 loading z file base = staged_with file (moved_to base (kept_of z))
 
 -- A zone of which nothing is staged, as its store is opened again, with these after what was shown. It begins
--- at whichever base. The store was opened once more, or a stop came before that was written.
+-- at whichever base. The sectors that were altered are so still; or none is, as where the store was written
+-- anew. The store was opened once more, or a stop came before that was written.
 pub record IsOpenedWith (more : List Made) (old new : ZoneState) : Type 0 where
   pub rests : old.staged ≡ []
   pub setting : new.setting ≡ old.setting
@@ -59,6 +60,7 @@ pub record IsOpenedWith (more : List Made) (old new : ZoneState) : Type 0 where
   pub staged : new.staged ≡ []
   pub so_far : new.base ≤ length new.shown
   pub second : new.second ≡ None
+  pub altered : (new.altered ≡ old.altered) ⊎ (new.altered ≡ [])
   pub opened : new.closed ≡ false
   pub at_least : old.openings ≤ new.openings
   pub at_most : new.openings ≤ old.openings + 1

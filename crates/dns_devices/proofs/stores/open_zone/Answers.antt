@@ -23,7 +23,7 @@ returns-in-Ok g c =
         came = ap (λ calls. calls ++ Closed (string_bytes own.device) (store_device store) ∷ []) is.came;
         apex = is.apex;
         intact = is.intact;
-        altered = λ honest range x o is_opened altered. (is.altered honest range x o is_opened altered).newest_is;
+        altered = λ honest range x o is_opened none altered. (is.altered honest range x o is_opened none altered).newest_is;
         newest = λ honest range may. let t = is.taken honest range may in
             (t.0, t.1, λ o h. ((t.2 o h).newest_is, leaves_kept g.D.Sectors store (fresh (own_shape own) (opened_again o)) (t.2 o h).keeps_them));
         any_moment = is.any_moment;

@@ -1,4 +1,4 @@
-use Rattle.std.proofs.Common.{◌≡◌, ◌+◌, List, [], ◌∷◌, length, inr, ⊎_elim, take, drop, refl, ◌∙◌, ap, arith}
+use Rattle.std.proofs.Common.{◌≡◌, ◌+◌, List, [], ◌∷◌, length, take, drop, refl, ◌∙◌, ap, arith}
 use Rattle.dns_sectors.specs.Device.{Content}
 use Rattle.dns_sectors.specs.Crash.{CrashOf}
 use Rattle.dns_sectors.specs.Phase.{pairs}
@@ -11,7 +11,7 @@ use Rattle.dns_journal.specs.Bank.{LaysBank}
 use Rattle.dns_journal.specs.Clearing.{StaysUncleared}
 use Rattle.dns_journal.specs.Converting.{LeavesConverted, StaysOrConverts}
 use Rattle.dns_journal.proofs.Turned.{rooms_of}
-use Rattle.dns_journal.proofs.Converted.{steps, are_places, opens_cleared, enough_writes, entries_end, entries_len}
+use Rattle.dns_journal.proofs.Converted.{intact, steps, are_places, still_converted, opens_cleared, enough_writes, entries_end, entries_len}
 use Rattle.dns_journal.proofs.conversion.convert.Goals as goal
 
 pub split_at-requires : goal.split_at-requires
@@ -96,8 +96,9 @@ returns-in_err-clear_bank-clause-any_moment g c honest only =
     let st = steps s k (g.D.Sectors.seen c.args.device.now) x parts opens r says c.args.base c.args.octets.now c.args.changes.now base_is c.requires.fits c.in_ok-writes.writes.items c.in_ok-writes._next lays c.other_bank-root.result c.other_bank-root.ensures
     c.encode.result c.encode.ensures.says c.encode.ensures.own c.encode-cleared.result c.encode-cleared.ensures.says c.encode-cleared.ensures.own c.places_of-old.result old c.places_of-new.result new c.split_at.result.0.now c.split_at.result.1.now front back in
     let begun = st.to_clear (g.D.Sectors.seen c.write_whole.new.device) (g.D.Sectors.seen c.write_phase.new.device) written (c.in_ok-write_phase.ensures.written one) in
-    let stays = left s st.new c.encode.result st.parts begun in
-    inr (st.new, st.turned, stays.0, stays.1, ⊎_elim (λ now. now ∙ c.encode.ensures.says.opened_is) (λ then. then ∙ st.counted) stays.2))
+    still_converted s k st.new c.args.octets.now c.args.changes.now r.open_count c.encode.result c.encode-cleared.result e st.turned
+    c.encode.ensures.says.opened_is st.counted
+    (left s (intact st.new) c.encode.result st.parts (g.D.Sectors.seen c.write_phase.new.device, refl, begun)))
 
 pub returns-clause-any_moment : goal.returns-clause-any_moment
 returns-clause-any_moment g c honest only =
@@ -126,8 +127,9 @@ returns-clause-any_moment g c honest only =
     let st = steps s k (g.D.Sectors.seen c.args.device.now) x parts opens r says c.args.base c.args.octets.now c.args.changes.now base_is c.requires.fits c.in_ok-writes.writes.items c.in_ok-writes._next lays c.other_bank-root.result c.other_bank-root.ensures
     c.encode.result c.encode.ensures.says c.encode.ensures.own c.encode-cleared.result c.encode-cleared.ensures.says c.encode-cleared.ensures.own c.places_of-old.result old c.places_of-new.result new c.split_at.result.0.now c.split_at.result.1.now front back in
     let begun = st.to_clear (g.D.Sectors.seen c.write_whole.new.device) (g.D.Sectors.seen c.write_phase.new.device) written (c.in_ok-write_phase.ensures.written one) in
-    let stays = left s st.new c.encode.result st.parts begun in
-    inr (st.new, st.turned, stays.0, stays.1, ⊎_elim (λ now. now ∙ c.encode.ensures.says.opened_is) (λ then. then ∙ st.counted) stays.2))
+    still_converted s k st.new c.args.octets.now c.args.changes.now r.open_count c.encode.result c.encode-cleared.result e st.turned
+    c.encode.ensures.says.opened_is st.counted
+    (left s (intact st.new) c.encode.result st.parts (g.D.Sectors.seen c.write_phase.new.device, refl, begun)))
 
 pub returns-clause-converted : goal.returns-clause-converted
 returns-clause-converted g c s k x parts honest only opens says base_is =
@@ -145,5 +147,9 @@ returns-clause-converted g c s k x parts honest only opens says base_is =
     let written = c.in_ok-write_whole.ensures.written honest in
     let two = c.write_phase.ensures.honest.1 one in
     let begun = st.to_clear (g.D.Sectors.seen c.write_whole.new.device) (g.D.Sectors.seen c.write_phase.new.device) written (c.in_ok-write_phase.ensures.written one) in
-    let left = c.in_ok-clear_bank.ensures.cleared s st.new c.encode.result st.parts two begun in
-    (st.new, st.turned, λ e may. opens_cleared s st.new c.encode-cleared.result st.parts (c.args.root.open_count + 1) (g.D.Sectors.seen c.clear_bank.new.device) e left st.cleared st.counted (c.in_ok-clear_bank.ensures.durable two e may))
+    let left = c.in_ok-clear_bank.ensures.cleared s (intact st.new) c.encode.result st.parts two (g.D.Sectors.seen c.write_phase.new.device, refl, begun) in (
+      st.new,
+      st.turned,
+      λ e may. opens_cleared s st.new c.encode.result c.encode-cleared.result st.parts (c.args.root.open_count + 1)
+          (g.D.Sectors.seen c.clear_bank.new.device) e left st.cleared st.counted (c.in_ok-clear_bank.ensures.durable two e may),
+    )

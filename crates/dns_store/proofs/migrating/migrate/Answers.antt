@@ -104,7 +104,7 @@ returns-then-branch-clause-migrated g c honest range may =
       d,
       left,
       λ o is. ⊎_elim
-          (λ there. ((λ x now. subst (λ (y : Content). opens shape o y) (sym (c.in_ok-settle.ensures.durable honest x (two.crash near x now))) there), tt))
+          (λ there. ((λ x now. subst (λ (y : Content). opens shape o y) (sym (c.in_ok-settle.ensures.durable honest x (two.crash near x now))) there.0), tt))
           (λ was. absurd (old_tag shape was.0 d was.1 new))
           is,
     )
@@ -135,7 +135,7 @@ returns-in_err-found-clause-migrated g c honest range may =
       λ o is.
           ⊎_elim (λ new. absurd (not_new (new_tag shape o d new)))
           (λ was.
-          let stopped = none_altered One (open_count (sector_at e 0)) e error
+          let stopped = none_altered One shape (open_count (sector_at e 0)) e error
           (c.in_err-found.ensures.found here range e (altered_itself One e) was.0 was.1.0 (subst (λ (x : Content). OpensAsIn One (sizes_of shape) x was.1.0) (sym (first.seen honest)) was.1.1) was.1.2) in
           let times : o.openings ≡ open_count (sector_at e 0) + 1 = was.2.openings ∙ ap (λ n. n + 1) (sym was.1.3 ∙ sym (ap (λ (x : Content). open_count (sector_at x 0)) (first.seen honest))) in
           subst (λ m. IsMigrateStopped o.openings m) (sym p.2) (stopped_so (open_count (sector_at e 0)) o.openings error times stopped))

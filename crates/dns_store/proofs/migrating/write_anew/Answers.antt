@@ -12,7 +12,7 @@ use Rattle.dns_store.specs.Checkpoint.{IsBaseOf}
 use Rattle.dns_store.specs.Migrating.{StaysOrMigrates, base_error}
 use Rattle.dns_changes.specs.declared.ChangeError.{ChangeError}
 use Rattle.dns_store.specs.declared.migrating.MigrateError.{MigrateError}
-use Rattle.dns_store.proofs.Anew.{led, zones, too_wide, gone_led, gone_zones, base_fits, newest_fits, is_base, count_is, migrated, converted, told, stays_old, openings}
+use Rattle.dns_store.proofs.Anew.{led, zones, too_wide, gone_led, gone_zones, base_fits, newest_fits, is_base, count_is, migrated_opens, converted, told, stays_old}
 use Rattle.dns_store.proofs.migrating.write_anew.Goals as goal
 
 pub returns-in_default-clause-any_moment : goal.returns-in_default-clause-any_moment
@@ -84,15 +84,10 @@ returns-clause-migrated g c honest only shape o s read after to x left =
     (subst (λ (cs : List Change). c.saturating_sub-number.result + length cs ≡ version_of s) (sym (take_rest c.args.changes.now (length c.args.changes.now - n)))
     (count_is shape o s d c.args.root c.args.version c.args.base.now c.args.changes.now read n chosen c.saturating_sub-number.result c.saturating_sub-number.ensures)) in
     let by = made.2 x left in
-    let is = is_base shape o s d c.args.root c.args.version c.args.base.now c.args.changes.now read n chosen c.in_ok-_base._base c.in_ok-_base.octets.items next in (
-      made.0,
-      by.opens,
-      by.tidy,
-      migrated shape o s d c.args.root c.args.version c.args.base.now c.args.changes.now read n chosen c.deref.result.now made.0
-          (subst (λ (l : List ℕ). IsBaseOf (fresh shape o) (length o.versions - n) l (drop (length c.args.changes.now - n) c.args.changes.now)) (sym c.deref.ensures.value) is)
-          (subst (λ (cs : List Change). IsTurned s c.deref.result.now cs made.0) (take_rest c.args.changes.now (length c.args.changes.now - n)) made.1) after to,
-      by.counted ∙ ap (λ m. m + 1) (openings shape o s d c.args.root c.args.version c.args.base.now c.args.changes.now read) ∙ sym to.openings,
-    )
+    let is = is_base shape o s d c.args.root c.args.version c.args.base.now c.args.changes.now read n chosen c.in_ok-_base._base c.in_ok-_base.octets.items next in
+    migrated_opens shape o s d c.args.root c.args.version c.args.base.now c.args.changes.now read n chosen c.deref.result.now made.0
+    (subst (λ (l : List ℕ). IsBaseOf (fresh shape o) (length o.versions - n) l (drop (length c.args.changes.now - n) c.args.changes.now)) (sym c.deref.ensures.value) is)
+    (subst (λ (cs : List Change). IsTurned s c.deref.result.now cs made.0) (take_rest c.args.changes.now (length c.args.changes.now - n)) made.1) after to x by.opens by.tidy by.counted
 
 pub returns-in_err-_base-clause-no_room : goal.returns-in_err-_base-clause-no_room
 returns-in_err-_base-clause-no_room g c shape o s read wide =

@@ -39,7 +39,7 @@ returns-in_err-root-clause-found g c honest range k altered o s opens part =
     let p = err_from_is_err_and c.from_residual.result c.from_residual.ensures.1 in
     let e = c.in_err-root.field-0.0 in
     rw (p.1, p.2)
-    (root_there f sz k s there.0 there.1 d c.apex_of.ensures.plain (g.D.Sectors.count c.args.device.now) (count ∙ altered.size) e
+    (root_there f sz k s there.0 there.1 d shape c.apex_of.ensures.plain (g.D.Sectors.count c.args.device.now) (count ∙ altered.size) e
     (subst (λ a. (e ≡ OpenError.Device) ⊎ NamesSpoiltIn f d 0 1 e ⊎ RootRefusalIn f (record { snapshot = c.args.snapshot; journal = c.args.journal; apex = a }) (g.D.Sectors.count c.args.device.now) (sector_at k 0) e) c.apex_of.ensures.octets
     (c.in_err-root.ensures.refused honest k altered)))
 
@@ -60,7 +60,9 @@ returns-in_err-octets-clause-found g c honest range k altered o s opens part =
     let e = c.in_err-octets.field-0.0 in
     let size = snapshot_sectors_in f c.in_ok-root.root.snapshot_length in
     let bad = subst (λ b. NamesSpoilt f b at (at + size) e ⊎ IsBadSnapshotIn f (sector_at k 0) at k e) (one.seen honest) (c.in_err-octets.ensures.damaged (one.honest.1 honest) k still (sector_at k 0) says) in
-    rw p.1 (snapshot_there f sz k s there.0 there.1 d at position size c.in_ok-root.ensures.fits.0 e p.0 p.2 bad)
+    rw p.1
+    (snapshot_there f sz k s there.0 there.1 d shape c.in_ok-root.root (c.in_ok-root.ensures.found honest d (altered_itself f d)).says at position (ap (λ n. 1 + n * (c.args.snapshot + c.args.journal)) c.number.ensures) size c.in_ok-root.ensures.fits.0 c.in_ok-root.ensures.fits.0 e p.0 p.2
+    bad)
 
 pub returns-in-Err-clause-found : goal.returns-in-Err-clause-found
 returns-in-Err-clause-found g c honest range k altered o s opens part =
@@ -110,7 +112,8 @@ returns-in_err-newest-clause-found g c honest range k altered o s opens part =
     let e = c.in_err-newest.field-0.0 in
     rw (p.1, p.2)
     (⊎_elim (λ failed. inl (inl failed)) (λ rest. ⊎_elim (λ memory. inl (inr (inl memory)))
-    (λ spoilt. inr (bank_altered f sz k s there.0 there.1 d cursor.at cursor.until (omega (arith, position)) (omega (arith, position)) e (subst (λ b. NamesSpoiltIn f b cursor.at cursor.until e) (two.seen honest) spoilt))) rest) all)
+    (λ spoilt. inr (bank_altered f sz k s there.0 there.1 d shape c.in_ok-root.root (c.in_ok-root.ensures.found honest d (altered_itself f d)).says cursor.at cursor.until (omega (arith, position)) (omega (arith, position))
+    (omega (arith, ap (λ n. 1 + n * (c.args.snapshot + c.args.journal)) c.number.ensures)) (omega (arith, ap (λ n. 1 + n * (c.args.snapshot + c.args.journal)) c.number.ensures)) e (subst (λ b. NamesSpoiltIn f b cursor.at cursor.until e) (two.seen honest) spoilt))) rest) all)
 
 pub returns-clause-found : goal.returns-clause-found
 returns-clause-found g c honest range k altered o s opens part =

@@ -1,9 +1,9 @@
 use Rattle.std.proofs.Common.{Err, ap, ◌∙◌}
-use Rattle.dns_layout.specs.declared.format.Format.TheVariants.{Two}
-use Rattle.dns_journal.proofs.Altered.{altered_itself}
 use Rattle.dns_journal.proofs.Looking.{reads_then}
+use Rattle.dns_store.proofs.Altered.{applied_altered}
+use Rattle.dns_store.proofs.Entering.{not_opened, unaltered}
 use Rattle.dns_devices.specs.Stores.{own_shape}
-use Rattle.dns_commands.proofs.Verified.{figures_read, not_reopened, refused_as, tested_before, untested}
+use Rattle.dns_commands.proofs.Verified.{figures_read, refused_as, tested_before, untested}
 use Rattle.dns_commands.proofs.commands.verify.read_store.Goals as goal
 
 pub returns-in-Ok-tested : goal.returns-in-Ok-tested
@@ -18,10 +18,13 @@ returns-in-Ok-tested g c =
     record {
       read_only = reads_then old mid new c.read_settled-read.ensures.reads c.tested.ensures.reads;
       intact = record { root = c.in-Ok.ensures.root; not_own = c.in-Ok.ensures.not_own };
-      opened = λ honest range o opens. figures_read (own_shape own) o seen read.root read.end read.base.records read.newest.records read.changes.items c.figures_of.result opens
-          (c.in-Ok.ensures.found honest range seen (altered_itself Two seen) o opens.0 opens.1 opens.3) is.version is.serial is.records is.entries is.sectors_left is.openings;
-      altered = λ honest range before o opens altered. figures_read (own_shape own) o before read.root read.end read.base.records read.newest.records read.changes.items c.figures_of.result opens
-          (c.in-Ok.ensures.found honest range before altered o opens.0 opens.1 opens.3) is.version is.serial is.records is.entries is.sectors_left is.openings;
+      opened = λ honest range o (spoilt, (before, some, (s, holds, tidy, part, times))).
+          figures_read (own_shape own) o before read.root read.end read.base.records read.newest.records read.changes.items c.figures_of.result s part times
+          (c.in-Ok.ensures.found honest range before (applied_altered o.altered before seen spoilt some) o s holds part) is.version is.serial is.records is.entries is.sectors_left is.openings;
+      altered = λ honest range before o opens none altered.
+          let (s, holds, tidy, part, times) = unaltered (own_shape own) o before opens none in
+          figures_read (own_shape own) o before read.root read.end read.base.records read.newest.records read.changes.items c.figures_of.result s part times
+          (c.in-Ok.ensures.found honest range before altered o s holds part) is.version is.serial is.records is.entries is.sectors_left is.openings;
       tested = tested_before {D = g.row.D.Denot} {g = g.D.Sectors} c.args.every_sector old mid c.in-Ok-tested.spoilt.items c.read_settled-read.ensures.reads c.in-Ok-tested.ensures.tested;
       quiet = c.in-Ok-tested.ensures.quiet ∙ c.in-Ok.ensures.quiet;
     }
@@ -39,11 +42,12 @@ returns g c =
     record {
       read_only = c.read_settled-read.ensures.reads;
       failed = λ is. c.in-Err.ensures.device (ap Err is);
-      stopped = λ honest range o opens. not_reopened (own_shape own) o seen error opens
-          (c.in-Err.ensures.found honest range seen (altered_itself Two seen) o opens.0 opens.1 opens.3);
+      stopped = λ honest range o (spoilt, (before, some, (s, holds, tidy, part, times))). not_opened (own_shape own) o before seen error some times
+          (c.in-Err.ensures.found honest range before (applied_altered o.altered before seen spoilt some) o s holds part);
       refused = c.in-Err.ensures.refused;
       damaged = c.in-Err.ensures.damaged;
       not_own = c.in-Err.ensures.not_own;
-      altered = λ honest range before o opens altered. refused_as (own_shape own) o before seen error opens
-          (c.in-Err.ensures.found honest range before altered o opens.0 opens.1 opens.3);
+      altered = λ honest range before o opens none altered.
+          let (s, holds, tidy, part, times) = unaltered (own_shape own) o before opens none in
+          refused_as (own_shape own) o before seen error times (c.in-Err.ensures.found honest range before altered o s holds part);
     }

@@ -1,11 +1,11 @@
-use Rattle.std.proofs.Common.{◌≡◌, ◌⊎◌, ◌+◌, ◌-◌, List, refl, sym, length, subst, arith}
+use Rattle.std.proofs.Common.{◌≡◌, ◌+◌, ◌-◌, List, refl, sym, length, subst, arith}
 use Rattle.dns_sectors.specs.Phase.{pairs}
 use Rattle.dns_sectors.specs.declared.phase.SectorWrite.{SectorWrite}
 use Rattle.dns_sectors.proofs.Moments.{started, weaker}
 use Rattle.dns_layout.specs.Forms.{bank_number}
 use Rattle.dns_layout.specs.Sector.{open_count}
-use Rattle.dns_layout.specs.Store.{OpensAs, IsTidy, other_of}
-use Rattle.dns_journal.specs.State.{IsOpenedTimes}
+use Rattle.dns_layout.specs.Store.{other_of}
+use Rattle.dns_journal.specs.State.{OpensAsOneOf}
 use Rattle.dns_journal.specs.Bank.{LaysBank, LeavesEither}
 use Rattle.dns_journal.proofs.Turned.{still_stored, rooms_of, stored, is_turned, turns, leaves_either, turned_keeps}
 use Rattle.dns_journal.proofs.journal.Journal.turn.Goals as goal
@@ -24,8 +24,10 @@ returns-in-Ok-clause-any_moment g c shape k keeps =
     let lays = subst (λ (l : List SectorWrite). LaysBank (rooms_of old.root) (other_of (bank_number old.root.bank)) old.root.open_count base c.args.octets.now c.args.changes.now (pairs l) c.in_ok-writes.next) (sym c.deref.ensures.value) c.in_ok-writes.ensures.laid in
     let new = stored shape old k keeps c.args.octets.now c.args.changes.now c.other_bank-self.result base ws c.in_ok-writes.next c.other_bank-self.ensures base_is c.requires.fits lays in
     let turn = turns shape old k keeps c.args.octets.now c.args.changes.now c.other_bank-self.result base ws c.in_ok-writes.next c.other_bank-self.ensures base_is c.requires.fits lays in
-    weaker g.D.Sectors.moment g.D.Sectors.left_since c.args.self.now.device c.turn_to.new.device (λ d. (OpensAs shape d k ⊎ OpensAs shape d new) × IsTidy shape d × IsOpenedTimes (open_count keeps.0) d) (LeavesEither shape k c.args.octets.now c.args.changes.now c.args.self.now.root.open_count)
-    (c.turn_to.ensures.any_moment shape k new keeps.0 keeps.1 keeps.2.honest keeps.2.durable keeps.2.opens keeps.2.bank keeps.2.behind turn)
+    weaker g.D.Sectors.moment g.D.Sectors.left_since c.args.self.now.device c.turn_to.new.device (OpensAsOneOf shape k new (open_count keeps.0))
+    (LeavesEither shape k c.args.octets.now c.args.changes.now c.args.self.now.root.open_count)
+    (c.turn_to.ensures.any_moment shape k new keeps.0 keeps.1 keeps.2.content keeps.2.honest keeps.2.durable keeps.2.altered keeps.2.opens keeps.2.bank
+    keeps.2.behind turn)
     (λ d left. leaves_either shape old k keeps c.args.octets.now c.args.changes.now c.other_bank-self.result base ws c.in_ok-writes.next c.other_bank-self.ensures base_is c.requires.fits lays d left)
 
 pub returns-in-Ok-clause-turned : goal.returns-in-Ok-clause-turned
@@ -37,7 +39,8 @@ returns-in-Ok-clause-turned g c shape k keeps =
     let lays = subst (λ (l : List SectorWrite). LaysBank (rooms_of old.root) (other_of (bank_number old.root.bank)) old.root.open_count base c.args.octets.now c.args.changes.now (pairs l) c.in_ok-writes.next) (sym c.deref.ensures.value) c.in_ok-writes.ensures.laid in
     let new = stored shape old k keeps c.args.octets.now c.args.changes.now c.other_bank-self.result base ws c.in_ok-writes.next c.other_bank-self.ensures base_is c.requires.fits lays in
     let turn = turns shape old k keeps c.args.octets.now c.args.changes.now c.other_bank-self.result base ws c.in_ok-writes.next c.other_bank-self.ensures base_is c.requires.fits lays in
-    let to = c.in-Ok.ensures.turned shape k new keeps.0 keeps.1 keeps.2.honest keeps.2.durable keeps.2.opens keeps.2.bank keeps.2.behind turn in (
+    let to = c.in-Ok.ensures.turned shape k new keeps.0 keeps.1 keeps.2.content keeps.2.honest keeps.2.durable keeps.2.altered keeps.2.opens keeps.2.bank
+    keeps.2.behind turn in (
       new,
       is_turned shape old k keeps c.args.octets.now c.args.changes.now c.other_bank-self.result base ws c.in_ok-writes.next c.other_bank-self.ensures base_is c.requires.fits lays,
       turned_keeps shape old k keeps c.args.octets.now c.args.changes.now c.other_bank-self.result base ws c.in_ok-writes.next c.other_bank-self.ensures base_is c.requires.fits lays _ keeps.2.is_open (c.turn_to.ensures.honest.1 keeps.2.honest)
@@ -53,6 +56,8 @@ returns-clause-any_moment g c shape k keeps =
     let lays = subst (λ (l : List SectorWrite). LaysBank (rooms_of old.root) (other_of (bank_number old.root.bank)) old.root.open_count base c.args.octets.now c.args.changes.now (pairs l) c.in_ok-writes.next) (sym c.deref.ensures.value) c.in_ok-writes.ensures.laid in
     let new = stored shape old k keeps c.args.octets.now c.args.changes.now c.other_bank-self.result base ws c.in_ok-writes.next c.other_bank-self.ensures base_is c.requires.fits lays in
     let turn = turns shape old k keeps c.args.octets.now c.args.changes.now c.other_bank-self.result base ws c.in_ok-writes.next c.other_bank-self.ensures base_is c.requires.fits lays in
-    weaker g.D.Sectors.moment g.D.Sectors.left_since c.args.self.now.device c.turn_to.new.device (λ d. (OpensAs shape d k ⊎ OpensAs shape d new) × IsTidy shape d × IsOpenedTimes (open_count keeps.0) d) (LeavesEither shape k c.args.octets.now c.args.changes.now c.args.self.now.root.open_count)
-    (c.turn_to.ensures.any_moment shape k new keeps.0 keeps.1 keeps.2.honest keeps.2.durable keeps.2.opens keeps.2.bank keeps.2.behind turn)
+    weaker g.D.Sectors.moment g.D.Sectors.left_since c.args.self.now.device c.turn_to.new.device (OpensAsOneOf shape k new (open_count keeps.0))
+    (LeavesEither shape k c.args.octets.now c.args.changes.now c.args.self.now.root.open_count)
+    (c.turn_to.ensures.any_moment shape k new keeps.0 keeps.1 keeps.2.content keeps.2.honest keeps.2.durable keeps.2.altered keeps.2.opens keeps.2.bank
+    keeps.2.behind turn)
     (λ d left. leaves_either shape old k keeps c.args.octets.now c.args.changes.now c.other_bank-self.result base ws c.in_ok-writes.next c.other_bank-self.ensures base_is c.requires.fits lays d left)
