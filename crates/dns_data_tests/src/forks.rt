@@ -3,7 +3,7 @@
 use dns_fixtures::{name, zone};
 use dns_memory::{Heap, heap};
 use dns_zone::laws::{Command, run_index};
-use dns_zone::{Records, ZoneIndex};
+use dns_zone::{RecordList, Records, ZoneIndex};
 use dns_zoneindex::SharedTree;
 use std::test::Fail;
 
@@ -23,40 +23,46 @@ subdel NS ns.example.com.
  NS ns.example.net.
 ";
 
-/// Its records in a tree.
-fn example(heap: Heap) -> Option<SharedTree> {
-    let zone = zone(heap, "example.", ZONE)?;
+/// These records in a tree.
+fn tree(heap: Heap, records: &RecordList) -> Option<SharedTree> {
     let mut set = SharedTree::empty(heap).ok()?;
-    for record in Records::of(zone.index()) {
+    for record in Records::of(records) {
         set.insert(record.clone().ok()?).ok()?;
     }
     Some(set)
 }
 
-/// How many records a set has, as they are walked one after the other, up to twenty.
-fn walked(set: &SharedTree) -> usize {
+/// How many records a set has, if they are the first of these, as they are walked one after the other.
+fn walked(set: &SharedTree, records: &RecordList) -> Option<usize> {
     let mut count: usize = 0;
     let mut after = None;
-    for _step in 0..20 {
-        if let Some(record) = set.walk(after) {
-            count = count.wrapping_add(1);
-            after = Some(record);
+    for wanted in Records::of(records) {
+        match set.walk(after) {
+            None => return Some(count),
+            Some(record) if record == wanted => after = Some(record),
+            Some(_) => return None,
         }
+        count = count.wrapping_add(1);
     }
-    count
+    if set.walk(after).is_none() {
+        Some(count)
+    } else {
+        None
+    }
 }
 
-/// How many records a set has, and whether a name exists in it that owns none of them.
+/// How many of the zone's records a set has, which are its first ones, and whether a name exists in it that
+/// owns none of them.
 #[derive(Clone, Copy, Debug, PartialEq, Eq)]
 struct Found {
     records: usize,
     service: bool,
 }
 
-fn look(heap: Heap, set: &SharedTree) -> Option<Found> {
+fn look(heap: Heap, set: &SharedTree, records: &RecordList) -> Option<Found> {
     let service = name(heap, "_tcp.host1.example.")?;
     Some(Found {
-        records: walked(set),
+        records: walked(set, records)?,
         service: set.exists(&service.lend()),
     })
 }
@@ -64,7 +70,9 @@ fn look(heap: Heap, set: &SharedTree) -> Option<Found> {
 /// What a fork has, what the set has that it was taken from and from which all but the apex's records were
 /// removed, and what a list of these removals leaves of the fork.
 fn removed(heap: Heap) -> Option<[Found; 3]> {
-    let mut set = example(heap)?;
+    let zone = zone(heap, "example.", ZONE)?;
+    let records = zone.index();
+    let mut set = tree(heap, records)?;
     let fork = set.fork().ok()?;
     let apex = name(heap, "example.")?;
     let mut removals = Vec::new(heap);
@@ -75,7 +83,11 @@ fn removed(heap: Heap) -> Option<[Found; 3]> {
         }
     }
     let (left, _replies) = run_index(heap, fork.fork().ok()?, &removals).ok()?;
-    Some([look(heap, &fork)?, look(heap, &set)?, look(heap, &left)?])
+    Some([
+        look(heap, &fork, records)?,
+        look(heap, &set, records)?,
+        look(heap, &left, records)?,
+    ])
 }
 
 #[test]

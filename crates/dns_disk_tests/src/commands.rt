@@ -28,9 +28,9 @@ keep = 4
 update = []
 transfer = []
 [[zone]]
-origin = \"other.\"
-file = \"other.zone\"
-device = \"other.device\"
+origin = \"tiny.\"
+file = \"tiny.zone\"
+device = \"tiny.device\"
 snapshot_sectors = 1
 journal_sectors = 8
 keep = 4
@@ -38,14 +38,22 @@ update = []
 transfer = []
 ";
 
-/// The master file of the first zone, and that of the second.
+/// The master file of the first zone, and two of the second: one whose names are relative to its origin, and
+/// one with the greatest serial.
 const EXAMPLE: &str = "$TTL 3600
 @ SOA ns.example.com. hostmaster 7 7200 900 1209600 300
 @ NS ns.example.com.
 host1 A 192.0.2.1
 ";
 
-const OTHER: &str = "$TTL 60
+const TINY: &str = "$TTL 3600
+@ SOA ns hostmaster 1 7200 900 1209600 300
+  NS ns
+ns A 192.0.2.53
+  AAAA 2001:db8::35
+";
+
+const LAST: &str = "$TTL 60
 @ SOA ns.example.com. hostmaster 4294967295 7200 900 1209600 300
 @ NS ns.example.com.
 ";
@@ -68,6 +76,13 @@ const PRINTED: &str =
     "example. 3600 IN SOA ns.example.com. hostmaster.example. 7 7200 900 1209600 300
 example. 3600 IN NS ns.example.com.
 host1.example. 3600 IN A 192.0.2.1
+";
+
+/// What is printed of the second.
+const TINY_PRINTED: &str = "tiny. 3600 IN SOA ns.tiny. hostmaster.tiny. 1 7200 900 1209600 300
+tiny. 3600 IN NS ns.tiny.
+ns.tiny. 3600 IN A 192.0.2.53
+ns.tiny. 3600 IN AAAA 2001:db8:0:0:0:0:0:35
 ";
 
 /// What is printed of the example with its change.
@@ -172,7 +187,7 @@ fn status_of(
     let config = file("dnsprim.toml", CONFIG);
     match command {
         Init(other, _) => {
-            let files = [file("example.zone", EXAMPLE), file("other.zone", other)];
+            let files = [file("example.zone", EXAMPLE), file("tiny.zone", other)];
             init::<Device, _, RecordList, _, _>(run, &config, None, &files)
         }
         Dump(origin, _) => dump::<Device, _, RecordList, _, _>(run, &config, origin),
@@ -252,12 +267,12 @@ fn prepare(rt: &HostRuntime, heap: Heap, before: Before) -> Result<(), Fail> {
         Old => return put_old(rt, heap),
         _ => {}
     }
-    for path in ["example.device", "other.device"] {
+    for path in ["example.device", "tiny.device"] {
         let _removed = fs::remove_file(rt, path);
     }
     match before {
         First(front, rest, len) => put(rt, "example.device", front, rest, len),
-        Second(front, rest, len) => put(rt, "other.device", front, rest, len),
+        Second(front, rest, len) => put(rt, "tiny.device", front, rest, len),
         _ => Ok(()),
     }
 }
@@ -267,13 +282,16 @@ fn prepare(rt: &HostRuntime, heap: Heap, before: Before) -> Result<(), Fail> {
 const ROOT: &[u8] = b"DPR1\0\0\0\0\0\0\0\0\0\0\0\0\0\0\0\0\0\0\0\0\0\0\0\0\0\0\0\0\0\0\0\0\0\0\
 \x01\xda\0\0\0\x08\0\0\0\x10\x07example";
 
-const FORMATTED: &str = "formatted example. serial 7\nformatted other. serial 4294967295\n";
+/// What is printed when both devices are made, with the one file of the second zone and with the other.
+const FORMATTED: &str = "formatted example. serial 7\nformatted tiny. serial 1\n";
+
+const FORMATTED_LAST: &str = "formatted example. serial 7\nformatted tiny. serial 4294967295\n";
 
 /// What is told if the second zone doesn't fit: nothing is printed, and both devices are removed.
-const TOO_LARGE: &str = "other.device: ZoneTooLarge\n";
+const TOO_LARGE: &str = "tiny.device: ZoneTooLarge\n";
 
 const EXISTS: &str =
-    "other.device: Exists\nother.device: init makes new files alone; move the file away, or serve it\n";
+    "tiny.device: Exists\ntiny.device: init makes new files alone; move the file away, or serve it\n";
 
 /// What can be done about a damaged sector, and about a device of format 1.
 const DAMAGED: &str =
@@ -289,20 +307,21 @@ const LEN: usize = 512 * 49;
 
 /// Commands, each with what is there before, the status, and what is printed and told. Faults of files come
 /// before any device is made.
-const RUNS: [(Before, Command, u8, &str); 46] = [
-    (Nothing, Init(OTHER, false), 0, FORMATTED),
+const RUNS: [(Before, Command, u8, &str); 47] = [
+    (Nothing, Init(TINY, false), 0, FORMATTED),
+    (Left, Init(TINY, false), 1, "example.device: Exists\n"),
     (Left, DUMP, 0, PRINTED),
-    (Left, Init(OTHER, false), 1, "example.device: Exists\n"),
-    (Left, MIGRATE, 0, "example. already\nother. already\n"),
+    (Left, Dump("tiny.", false), 0, TINY_PRINTED),
+    (Left, MIGRATE, 0, "example. already\ntiny. already\n"),
     (Left, DUMP, 0, PRINTED),
     (Left, Dump("none.", false), 1, "none.: BadOrigin\n"),
     (Left, Dump("a..b", false), 1, "a..b: BadOrigin\n"),
-    (Second(b"", 0, 1), Init(OTHER, true), 1, EXISTS),
+    (Second(b"", 0, 1), Init(LAST, true), 1, EXISTS),
     (Left, DUMP, 3, "example.device: Device\n"),
-    (Nothing, Init(NO_TTL, false), 1, "other.zone:1: NoTtl\n"),
+    (Nothing, Init(NO_TTL, false), 1, "tiny.zone:1: NoTtl\n"),
     (Left, DUMP, 3, "example.device: Device\n"),
     (Nothing, Init(LARGE, false), 1, TOO_LARGE),
-    (Left, Dump("other.", false), 3, "other.device: Device\n"),
+    (Left, Dump("tiny.", false), 3, "tiny.device: Device\n"),
     (First(b"", 0, LEN), DUMP, 1, "example.device: Blank\n"),
     (First(b"", 1, LEN), DUMP, 1, "example.device: Damaged(0)\n"),
     (Left, Dump("example.", true), 1, DAMAGED),
@@ -318,22 +337,22 @@ const RUNS: [(Before, Command, u8, &str); 46] = [
     (Left, Dump("example.", true), 1, OLD_FORMAT),
     (Left, MIGRATE, 1, "example.device: Damaged(1)\n"),
     (Nothing, MIGRATE, 3, "example.device: Device\n"),
-    (Nothing, Init(OTHER, false), 0, FORMATTED),
+    (Nothing, Init(LAST, false), 0, FORMATTED_LAST),
     (Old, DUMP, 1, "example.device: OldFormat\n"),
     (
         Left,
         MIGRATE,
         0,
-        "migrated example. version 1 serial 8\nother. already\n",
+        "migrated example. version 1 serial 8\ntiny. already\n",
     ),
-    (Left, MIGRATE, 0, "example. already\nother. already\n"),
+    (Left, MIGRATE, 0, "example. already\ntiny. already\n"),
     (Left, DUMP, 0, CHANGED),
     (Left, History("example.", false), 0, VERSIONS),
     (Left, History("example.", true), 0, RECORDS),
     (Left, History("none.", false), 1, "none.: BadOrigin\n"),
     (
         Left,
-        History("other.", true),
+        History("tiny.", true),
         0,
         "version 0 serial 4294967295\n",
     ),
@@ -370,13 +389,26 @@ fn ends(rt: &HostRuntime, heap: Heap, command: Command, status: u8, text: &str) 
         && out.as_slice() == text.as_bytes()
 }
 
-/// The commands in turn; and a device that is served is neither shown nor migrated.
+/// The octets of the files of the two devices, if they are there.
+fn devices(rt: &HostRuntime) -> [Option<Vec<u8>>; 2] {
+    [
+        fs::read(rt, "example.device").ok(),
+        fs::read(rt, "tiny.device").ok(),
+    ]
+}
+
+/// The commands in turn, of which an `init` that is refused changes no file; and a device that is served is
+/// neither shown nor migrated.
 #[test]
 fn commands(rt: HostRuntime) -> Result<(), Fail> {
     let heap = heap(rt.alloc())?;
     for (i, (before, command, status, text)) in RUNS.iter().enumerate() {
         prepare(&rt, heap, *before)?;
+        let files = devices(&rt);
         assert!(rt; ends(&rt, heap, *command, *status, text), "run {i}");
+        if let (Init(_, _), 1) = (*command, *status) {
+            assert!(rt; files == devices(&rt), "run {i}");
+        }
     }
     let served = FileSectors::open(&rt, "example.device");
     assert!(rt; served.is_ok());

@@ -1,5 +1,6 @@
 //! A run of a store, over another, that is stopped at each of its operations, and after it an opening that is
 //! stopped at each of its own; and one of whose making or opening each operation fails.
+use crate::example::EXAMPLE;
 use crate::stores::{
     Device, Found, OpenStore, Store, TINY, enter, entered, found_on, look, made, make, opened,
     read, stage, tiny_text,
@@ -219,16 +220,16 @@ fn openings_in_root(device: &mut Device) -> Option<u64> {
     Some(u64::from_be_bytes(octets))
 }
 
-/// The same of a store that was opened once, when an opening was stopped after it wrote the root, the write
-/// was kept or lost, and the store was opened again.
+/// The same of the example's store, which was opened once, when an opening was stopped after it wrote the
+/// root, the write was kept or lost, and the store was opened again.
 fn openings_after_stop(heap: Heap, choice: usize) -> Option<u64> {
     let plan = plan(heap)?;
-    let device = made(heap, &TINY, plan.clone().ok()?)?;
-    let (device, _) = look(heap, device, &TINY);
+    let device = made(heap, &EXAMPLE, plan.clone().ok()?)?;
+    let (device, _) = look(heap, device, &EXAMPLE);
     plan.stop_at(2);
-    let (device, _) = look(heap, device, &TINY);
+    let (device, _) = look(heap, device, &EXAMPLE);
     plan.reset();
-    let (mut device, _) = look(heap, crashed(heap, device, choice)?, &TINY);
+    let (mut device, _) = look(heap, crashed(heap, device, choice)?, &EXAMPLE);
     openings_in_root(&mut device)
 }
 
