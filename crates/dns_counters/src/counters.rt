@@ -5,7 +5,8 @@ ghost use Rattle.dns_request.specs.declared.request.Transport.TheVariants.{Tcp};
 ghost use Rattle.dns_primary.specs.Steps.{event_shown};
 ghost use Rattle.dns_counters.specs.Counters.{code_in, is_cut, more, more_at, no_counts, opcode_in};
 ghost use Rattle.dns_counters.specs.Counters.{count_open, with_event, with_headers, with_message_of};
-ghost use Rattle.dns_counters.specs.Counters.{with_note, with_open, with_reply, with_request, with_transfer_step};
+ghost use Rattle.dns_counters.specs.Counters.{with_note, with_open, with_reply, with_request};
+ghost use Rattle.dns_counters.specs.Counters.{with_transfer_step};
 
 use dns_network::Note;
 use dns_primary::{Effects, Event, HeaderTo, Noted, Reply};
@@ -31,7 +32,8 @@ pub struct Counters {
     pub closed: u64,
     /// Connections that were closed at once for want of a place.
     pub refused: u64,
-    /// Connections that were closed because nothing came on them, or nothing could be written, for 30 seconds.
+    /// Connections that were closed because nothing came on them, or nothing could be written, for 30
+    /// seconds.
     pub silent: u64,
     /// On which connections, by their numbers, a transfer is open.
     pub sending: [bool; 64],

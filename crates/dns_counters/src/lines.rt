@@ -2,7 +2,8 @@
 ghost use Rattle.std.specs.Prelude.{◌≡◌, ◌++◌, OnOk};
 ghost use Rattle.std.specs.Io.KnownBytes.{Appends};
 ghost use Rattle.dns_counters.specs.Lines.{connection_counts, counts_line, flag, journal_counts};
-ghost use Rattle.dns_counters.specs.Lines.{query_counts, query_refusals, server_line, snapshot_counts, transfer_counts};
+ghost use Rattle.dns_counters.specs.Lines.{query_counts, query_refusals, server_line, snapshot_counts};
+ghost use Rattle.dns_counters.specs.Lines.{transfer_counts};
 ghost use Rattle.dns_counters.specs.Lines.{update_counts, update_refusals, update_tests, zone_counts};
 
 use crate::Counters;

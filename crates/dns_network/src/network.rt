@@ -104,7 +104,8 @@ pub trait Observer {
         ensures { takes self.old note self.new };
 
     /// Observes an event that the primary has taken, before its effects are delivered: a datagram or a
-    /// message that came, a pump of a transfer, or a flush. Of a connection that comes or ends there is a note.
+    /// message that came, a pump of a transfer, or a flush. Of a connection that comes or ends there is a
+    /// note.
     fn observe(&mut self, event: Event<'_>, effects: &Effects)
         ensures { observes self.old (event_shown event.entry) effects.now self.new };
 }

@@ -7,8 +7,8 @@ use std::io::Write;
 
 /// Whatever reports a recorder takes, any number of them: if it records after them, it did before, and its
 /// file has the script of them all, in their order, but for the lines that are still to be written. The
-/// observer behind it is told the same reports, and that the recording ended, once, if it did; a recorder that
-/// is off writes nothing.
+/// observer behind it is told the same reports, and that the recording ended, once, if it did; a recorder
+/// that is off writes nothing.
 ///
 /// So what is said of the reports of turns, as by the clause of `Edge::turn`, is said of the file.
 pub fn recording_law<W: Write, L: Observer>()

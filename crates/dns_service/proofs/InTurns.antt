@@ -25,15 +25,15 @@ use Rattle.dns_network.specs.Turn.{TurnMoment, Asks, Moves, Connects, Refuses, H
 use Rattle.dns_network.specs.Turn.{AreMoments, EventComes, HasAsked, HasHappened, IsCauseNoted, IsMoment, IsPlaced}
 use Rattle.dns_network.specs.Turns.{AreDone, AreTurns, IsRound}
 use Rattle.dns_service.specs.Carried.{IsCutFrom, datagrams_of_event, datagrams_of_reply, sent_in_moment, sent_in_turns, told_in_moment, told_in_turns}
-use Rattle.dns_service.specs.DatagramSockets.{AreInOrder, HaveBrought, HaveCarried, of_address}
-use Rattle.dns_service.specs.declared.system.DatagramCalls.{Ghosts}
-use Rattle.dns_service.specs.declared.udp.Udp.{Udp}
+use Rattle.dns_sockets.specs.DatagramSockets.{AreInOrder, HaveBrought, HaveCarried, of_address}
+use Rattle.dns_sockets.specs.declared.system.DatagramCalls.{Ghosts}
+use Rattle.dns_sockets.specs.declared.udp.Udp.{Udp}
 use Rattle.dns_network.proofs.Steps.{steps_on}
-use Rattle.dns_service.specs.Udp.{HasCarried}
-use Rattle.dns_service.proofs.Brought.{none_have, of_own, still_there}
-use Rattle.dns_service.proofs.Carried.{carried_on}
-use Rattle.dns_service.proofs.Each.{was_there}
-use Rattle.dns_service.proofs.Passed.{zip_on}
+use Rattle.dns_sockets.specs.Udp.{HasCarried}
+use Rattle.dns_sockets.proofs.Brought.{none_have, of_own, still_there}
+use Rattle.dns_sockets.proofs.Carried.{carried_on}
+use Rattle.dns_sockets.proofs.Each.{was_there}
+use Rattle.dns_sockets.proofs.Passed.{zip_on}
 
 -- what holds of each holds of the later ones
 later_all : {X : Type 0} (P : X → Type 0) (xs ys : List X) → All P (xs ++ ys) → All P ys

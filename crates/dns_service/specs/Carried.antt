@@ -13,10 +13,10 @@ use Rattle.dns_network.specs.Datagrams.{Datagram}
 use Rattle.dns_network.specs.Delivery.{Served}
 use Rattle.dns_network.specs.Turn.{TurnMoment, Asks, Moves, Connects, Refuses, Happens, Closes}
 use Rattle.dns_network.specs.Turns.{AreTurns}
-use Rattle.dns_service.specs.DatagramSockets.{AreInOrder, HaveCarried}
-use Rattle.dns_service.specs.Sockets.{datagrams_of}
-use Rattle.dns_service.specs.declared.sockets.Sockets.{Sockets}
-use Rattle.dns_service.specs.declared.system.DatagramCalls.{Ghosts}
+use Rattle.dns_sockets.specs.DatagramSockets.{AreInOrder, HaveCarried}
+use Rattle.dns_sockets.specs.Sockets.{datagrams_of}
+use Rattle.dns_sockets.specs.declared.sockets.Sockets.{Sockets}
+use Rattle.dns_sockets.specs.declared.system.DatagramCalls.{Ghosts}
 
 -- A reply to an address is a datagram to the peer there.
 abbrev pub datagrams_of_reply : To → List ℕ → List Datagram

@@ -1,10 +1,8 @@
 //! What the turns of a server are of its sockets.
 ghost use Rattle.dns_service.specs.Carried.{TurnsCarry};
 
-use crate::socket::Socket;
-use crate::sockets::Sockets;
-use crate::system::{DatagramCalls, ListenerCalls, StreamCalls};
 use dns_network::{Network, Observer, Stream};
+use dns_sockets::{DatagramCalls, ListenerCalls, Socket, Sockets, StreamCalls};
 use dns_store::ZoneStore;
 use dns_zone::ZoneIndex;
 

@@ -12,7 +12,6 @@ ghost use Rattle.dns_service.specs.Telling.{TurnsAreListened, TurnsAreRecorded, 
 
 use crate::log::{Counts, Log};
 use crate::opening::{Refusal, close_stores, open_primary};
-use crate::sockets::Sockets;
 use crate::watched::Watched;
 use dns_configuration::{DONE, FAILED, File, ZoneSettings, origins_of, read_configuration, tell};
 use dns_counters::{CountLines, Counting};
@@ -24,6 +23,7 @@ use dns_network::{Edge, Network, Observer, Stream};
 use dns_primary::Primary;
 use dns_recording::Recorder;
 use dns_sectors::Sectors;
+use dns_sockets::Sockets;
 use dns_store::{KeptStore, ZoneStore};
 use dns_zone::{Zone, ZoneIndex};
 use std::alloc::Global;

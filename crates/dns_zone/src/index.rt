@@ -75,7 +75,7 @@ pub trait ZoneIndex: Drop {
     fn len(&self) -> usize
         ensures { result ≡ length (records self.now) };
 
-    /// Successive records from this position on, as many as the set can lend in one piece, and none only where
+    /// Successive records from this position on, as many as the set can lend in one piece, and none only if
     /// none is left.
     fn run_from(&self, position: usize) -> &[Record]
         ensures run { IsRun (records self.now) position result.now }

@@ -38,7 +38,7 @@ impl<'a, I: ZoneIndex> Records<'a, I> {
         Records::from_place(index, 0)
     }
 
-    /// The records from position `position` on: where so many were taken, those that are left.
+    /// The records from `position` on.
     pub fn from_place(index: &'a I, position: usize) -> Records<'a, I>
         ensures { result ≡ drop position (I.records index.now) }
     {

@@ -14,7 +14,7 @@ use Rattle.dns_zone.specs.Order.{bytes_same, bytes_itself}
 use Rattle.dns_zone.specs.Sets.{true_or_false}
 use Rattle.dns_zoneindex.specs.Assoc.{child_of}
 use Rattle.dns_zoneindex.specs.Entries.{Child}
-use Rattle.dns_zoneindex.specs.Children.{label_cmp, joined, first_label, last_of, AllChildren, AreChildren, AllFull, BeginAlike, AllBegin, BeginAsSecond, IsWhole, AreAlike, IsBeginning}
+use Rattle.dns_zoneindex.specs.Children.{label_cmp, joined, first_label, last_of, AllChildren, AreChildren, AllFull, BeginAlike, AllBegin, BeginAsSecond, IsWhole, AreAlike, IsSharedPrefix}
 use Rattle.dns_zoneindex.specs.Keys.{IsKey}
 use Rattle.dns_zoneindex.proofs.Keys.{first_equal, one_more, key_equal}
 use Rattle.dns_zoneindex.specs.Slots.{IsPlace, IsFoundAt}
@@ -145,7 +145,7 @@ whole_none cs = all cs
     all [] = tt
     all (x ∷ xs) = (refl, all xs)
 
-pub beginning_none : (slots : List (List Child)) (whole : Bool) → IsBeginning slots 0 whole
+pub beginning_none : (slots : List (List Child)) (whole : Bool) → IsSharedPrefix slots 0 whole
 beginning_none slots whole = (second_none slots, λ w. whole_none (joined slots))
 
 -- where the labels of all children begin alike
@@ -201,12 +201,12 @@ pub beginning_whole : (n p : ℕ) (slots : List (List Child)) (s t : List Child)
     → suc p ≡ length slots
     → slice_get slots p ≡ Some t
     → AreAlike n (slice_get s 0) (last_of t)
-    → IsBeginning slots n true
+    → IsSharedPrefix slots n true
 beginning_whole n p slots s t k f e m l a = by (slice_get s 0) (last_of t) refl refl a
   where
-    by : (x y : Option Child) → slice_get s 0 ≡ x → last_of t ≡ y → AreAlike n x y → IsBeginning slots n true
-    by None y g h a = subst (λ z. IsBeginning slots z true) (sym a) (beginning_none slots true)
-    by (Some x) None g h a = subst (λ z. IsBeginning slots z true) (sym a) (beginning_none slots true)
+    by : (x y : Option Child) → slice_get s 0 ≡ x → last_of t ≡ y → AreAlike n x y → IsSharedPrefix slots n true
+    by None y g h a = subst (λ z. IsSharedPrefix slots z true) (sym a) (beginning_none slots true)
+    by (Some x) None g h a = subst (λ z. IsSharedPrefix slots z true) (sym a) (beginning_none slots true)
     by (Some x) (Some y) g h a =
         let w = whole_between n x y (joined slots) k (first_joined slots s f e ∙ g) (last_joined slots p t f m l ∙ h) a in
         (second_whole n slots f w, λ same. w)
@@ -217,7 +217,7 @@ pub beginning_later : (n p : ℕ) (slots : List (List Child)) (s t : List Child)
     → suc p ≡ length slots
     → slice_get slots p ≡ Some t
     → AreAlike n (slice_get s 0) (slice_get t 0)
-    → IsBeginning slots n false
+    → IsSharedPrefix slots n false
 beginning_later n p [] s t k f e m l a = absurd cc
 beginning_later n p (r ∷ []) s t k f e m l a = absurd cc
 beginning_later n zero (r ∷ u ∷ slots) s t k f e m l a = absurd (omega (arith, m))
@@ -233,9 +233,9 @@ beginning_later n (suc p) (r ∷ (c ∷ u) ∷ slots) s t k f e m l a = by (slic
     never : {A : Type 0} → false ≡ true → A
     never w = absurd cc
 
-    by : (x y : Option Child) → slice_get s 0 ≡ x → slice_get t 0 ≡ y → AreAlike n x y → IsBeginning all n false
-    by None y g h a = subst (λ z. IsBeginning all z false) (sym a) (beginning_none all false)
-    by (Some x) None g h a = subst (λ z. IsBeginning all z false) (sym a) (beginning_none all false)
+    by : (x y : Option Child) → slice_get s 0 ≡ x → slice_get t 0 ≡ y → AreAlike n x y → IsSharedPrefix all n false
+    by None y g h a = subst (λ z. IsSharedPrefix all z false) (sym a) (beginning_none all false)
+    by (Some x) None g h a = subst (λ z. IsSharedPrefix all z false) (sym a) (beginning_none all false)
     by (Some x) (Some y) g h a =
         let first : slice_get (firsts rest) 0 ≡ Some x = ap (λ o. slice_get (unwrap_or o (c ∷ u)) 0) e ∙ g in
         let last : last_of (firsts rest) ≡ Some y = last_firsts rest p t f.1 (omega (arith, m)) l ∙ h in

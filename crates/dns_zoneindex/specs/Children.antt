@@ -1,6 +1,6 @@
 -- What the children of a name are seen as.
-use Rattle.std.specs.Prelude.{Bool, true, false, ◌≡◌, ℕ, ◌<◌, List, [], ◌∷◌, ◌++◌, length, map, take, drop, get_or}
-use Rattle.std.specs.Prelude.{Option, Some, None}
+use Rattle.std.specs.Prelude.{Bool, true, false, ◌≡◌, ℕ, ◌<◌, List, [], ◌∷◌, ◌++◌, length, map, take, drop}
+use Rattle.std.specs.Prelude.{get_or, Option, Some, None}
 use Rattle.std.specs.Ordering.{nat_cmp}
 use Rattle.std.specs.Cmp.Lexicographic.{slice_cmp}
 use Rattle.std.specs.declared.cmp.Ordering.{Ordering}
@@ -86,15 +86,15 @@ abbrev pub IsWhole : ℕ → List Child → Type 0
 IsWhole skip cs = AllChildren (λ c. take skip c.label ≡ take skip (first_label cs)) cs
 
 -- How the labels in the slots of a group begin.
-abbrev pub IsBeginning : List (List Child) → ℕ → Bool → Type 0
-IsBeginning slots skip whole = BeginAsSecond skip slots × (whole ≡ true → IsWhole skip (joined slots))
+abbrev pub IsSharedPrefix : List (List Child) → ℕ → Bool → Type 0
+IsSharedPrefix slots skip whole = BeginAsSecond skip slots × (whole ≡ true → IsWhole skip (joined slots))
 
 -- What holds of the slots of a group, of the number of their records, of their keys, and of how the labels
 -- begin.
 abbrev pub IsGroup : ℕ → List (List Child) → List ℕ → ℕ → Bool → Type 0
 IsGroup count slots keys skip whole =
     AreChildren (joined slots) × AllFull slots × (1 < length slots) × (count ≡ length (flat (joined slots)))
-    × AreKeys skip keys slots × IsBeginning slots skip whole
+    × AreKeys skip keys slots × IsSharedPrefix slots skip whole
 
 -- What holds of the children of a slot, the number of their records, and the key of the first.
 abbrev pub IsSlot : ℕ → ℕ → List Child → Type 0

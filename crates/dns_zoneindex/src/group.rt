@@ -5,7 +5,7 @@ ghost use Rattle.std.specs.Option.{option_copied};
 ghost use Rattle.std.specs.declared.cmp.Ordering.TheVariants.{Greater};
 ghost use Rattle.dns_zoneindex.specs.Children.{items, joined, label_cmp, AllChildren, AreChildren, AllFull};
 ghost use Rattle.dns_zoneindex.specs.Children.{AreKeys, IsFirstKey, BeginAlike, AllBegin, BeginAsSecond};
-ghost use Rattle.dns_zoneindex.specs.Children.{AreAlike, IsBeginning};
+ghost use Rattle.dns_zoneindex.specs.Children.{AreAlike, IsSharedPrefix};
 ghost use Rattle.dns_zoneindex.specs.Entries.{flat};
 ghost use Rattle.dns_zoneindex.specs.Keys.{IsKey};
 ghost use Rattle.dns_zoneindex.specs.Slots.{is_before, IsFoundAt, IsPlace};
@@ -163,7 +163,7 @@ fn beginning_of(slots: &[Slot]) -> (u8, bool)
     requires more { 1 < length slots.now }
     requires full { AllFull slots.now }
     requires kept { AreChildren (joined slots.now) }
-    ensures { IsBeginning slots.now result.0 result.1 }
+    ensures { IsSharedPrefix slots.now result.0 result.1 }
 {
     let second = &slots[1];
     let last = &slots[slots.len() - 1];
@@ -332,7 +332,7 @@ pub(crate) fn place_to_find(
     label: &[u8],
 ) -> usize
     requires keys { AreKeys skip keys.now slots.now }
-    requires begin { IsBeginning slots.now skip whole }
+    requires begin { IsSharedPrefix slots.now skip whole }
     requires key { IsKey key label.now }
     requires some { 0 < length slots.now }
     requires full { AllFull slots.now }

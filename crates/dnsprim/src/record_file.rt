@@ -7,8 +7,8 @@ use std::os::unix::fs::OpenOptionsExt;
 /// Who may read and write a file that is made: its owner.
 const OWNER_ALONE: u32 = 0o600;
 
-/// A file at whose end is written. It is opened when the first octets come, and made for its owner alone if it
-/// isn't there.
+/// A file at whose end is written. It is opened when the first octets come, and made for its owner alone if
+/// it isn't there.
 #[derive(Drop)]
 pub struct RecordFile<'a> {
     rt: &'a HostRuntime,

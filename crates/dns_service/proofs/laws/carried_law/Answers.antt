@@ -1,8 +1,8 @@
 use Rattle.std.proofs.Common.{◌≡◌, ℕ, Option, Some, None, ap}
-use Rattle.dns_service.specs.Sockets.{IsWatched, datagrams_of}
-use Rattle.dns_service.specs.declared.socket.Socket.{Socket}
-use Rattle.dns_service.specs.declared.sockets.Sockets.{Sockets}
-use Rattle.dns_service.specs.declared.system.StreamCalls.{Ghosts}
+use Rattle.dns_sockets.specs.Sockets.{IsWatched, datagrams_of}
+use Rattle.dns_sockets.specs.declared.socket.Socket.{Socket}
+use Rattle.dns_sockets.specs.declared.sockets.Sockets.{Sockets}
+use Rattle.dns_sockets.specs.declared.system.StreamCalls.{Ghosts}
 use Rattle.dns_service.proofs.InTurns.{carried_in}
 use Rattle.dns_service.proofs.laws.carried_law.Goals as goal
 

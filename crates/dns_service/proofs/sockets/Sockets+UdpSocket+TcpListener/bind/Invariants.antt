@@ -1,6 +1,0 @@
-use Rattle.dns_service.specs.DatagramSockets.{AreInOrder}
-use Rattle.dns_service.specs.Sockets.{datagrams_of}
-use Rattle.dns_service.proofs.sockets.Sockets+UdpSocket+TcpListener.bind.Given as goal
-
-abbrev pub invariant-loop-address : goal.invariant-loop-address
-invariant-loop-address g l = AreInOrder (datagrams_of l.sockets)

@@ -1,6 +1,0 @@
-use Rattle.std.proofs.Common.{[]}
-use Rattle.dns_service.specs.Udp.{HavePassed}
-use Rattle.dns_service.proofs.udp.UdpDatagramSocket.receive.Given as goal
-
-abbrev pub invariant-loop-try : goal.invariant-loop-try
-invariant-loop-try g l = HavePassed g.C.DatagramCalls [] [] l.initial.self l.self

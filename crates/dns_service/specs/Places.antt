@@ -1,6 +1,0 @@
--- The number by which a connection is watched.
-use Rattle.std.specs.Prelude.{ℕ, Option}
-use Rattle.dns_service.specs.declared.readiness.Place.{Place}
-
-abbrev pub place_number : Place → Option ℕ
-place_number slot = slot.number

@@ -1,0 +1,10 @@
+pub mod DatagramSockets
+pub mod Listeners
+pub mod MemoryPeers
+pub mod MemorySockets
+pub mod Peers
+pub mod Places
+pub mod Socket
+pub mod Sockets
+pub mod SystemCalls
+pub mod Udp
