@@ -33,11 +33,12 @@ pub record AreFew (removed added : List Record) : Type 0 where
 abbrev pub is_soa : Record → Bool
 is_soa r = r.rtype == type_soa
 
--- The SOAs are SOAs and no other record is one, and each list is in order.
+-- The SOAs are SOAs and no other record is one, each list is in order, and no record goes and comes.
 abbrev pub is_formed : Change → Bool
 is_formed c =
     is_soa c.old_soa && is_soa c.new_soa && not (list_any is_soa c.removed)
     && not (list_any is_soa c.added) && is_ordered c.removed && is_ordered c.added
+    && not (list_any (contains c.removed) c.added)
 
 -- The record is no SOA, and not in the others. A record whose TTL changed is not in the others.
 abbrev pub is_lone : List Record → Record → Bool

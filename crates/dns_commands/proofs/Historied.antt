@@ -185,7 +185,7 @@ seen_as {D} g opened own store newest after path P is after_is path_is holds = r
         t.1,
         λ o h.
             (let taken = t.2 o h in
-            let kept = leaves_kept g store (fresh (own_shape own) (opened_again o)) taken.keeps_them in
+            let kept = leaves_kept g store (fresh (own_shape own) (opened_again o)) taken.keeps_them (is.honest.1 honest) in
             (holds o t.0 h taken, λ c left. kept c (subst (λ (d : D). g.may_leave d c) after_is left))),
       ));
   any_moment = λ honest range. subst (λ (d : D). LeavesOnly g.moment g.left_since is.device d (OpensAsPossible g (own_shape own) is.device)) (sym after_is) (is.any_moment honest range);

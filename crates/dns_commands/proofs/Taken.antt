@@ -26,12 +26,12 @@ module _ {D I : Type 0} (g : Ghosts D) (own : ZoneSettings) (records : List Reco
   abbrev versions : Kept
   versions = fresh (own_shape own) (opened_again o)
 
-  pub loaded_zone : LeavesOnly g.moment g.left_since device (store_device store) (OpensAsPossible g (own_shape own) device) → g.failed (store_device store) ≡ g.failed device
+  pub loaded_zone : LeavesOnly g.moment g.left_since device (store_device store) (OpensAsPossible g (own_shape own) device) → g.failed (store_device store) ≡ g.failed device → g.is_honest (store_device new)
       → IsLoadedInto (keeps new) (g.failed (store_device store)) (g.failed (store_device new)) own.keep records versions r
       → LeavesOnly g.moment g.left_since (store_device store) (store_device new) (OpensAsLoading opens own.keep records versions)
       → IsLoadedOn g own records device (store_device new) r o
-  loaded_zone first quiet into second = record {
-    becomes = loaded_on (keeps new) (LeavesKept g (store_device new)) (g.failed (store_device store)) (g.failed device) (g.failed (store_device new)) own.keep records versions r (λ j kept x left. kept_opens new.journal j j.closed kept.keeps x left) quiet into;
+  loaded_zone first quiet honest into second = record {
+    becomes = loaded_on (keeps new) (LeavesKept g (store_device new)) (g.failed (store_device store)) (g.failed device) (g.failed (store_device new)) own.keep records versions r (λ j kept x left. kept_opens new.journal j j.closed (kept.keeps honest) x left) quiet into;
     any_moment = joined g.moment g.left_since device (store_device store) (store_device new) (LoadsAsPossible g own records device o) (OpensAsLoading opens own.keep records versions)
         (weaker g.moment g.left_since device (store_device store) (OpensAsPossible g (own_shape own) device) (LoadsAsPossible g own records device o) first (λ x left. inl left)) second (λ x left. inr left);
   }

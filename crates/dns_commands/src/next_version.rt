@@ -1,5 +1,5 @@
 //! The records of a zone's master file, as the next version of its store.
-ghost use Rattle.std.specs.Prelude.{◌≡◌, true, List, Some, None, Result, IfOk, OnOk, MatchResult};
+ghost use Rattle.std.specs.Prelude.{◌≡◌, ◌↔◌, true, List, Some, None, Result, IfOk, OnOk, MatchResult};
 ghost use Rattle.dns_records.specs.Record.{Record as Stated};
 ghost use Rattle.dns_store.specs.Versions.{Kept};
 ghost use Rattle.dns_versions.specs.Held.{HasVersions, newer};
@@ -77,10 +77,11 @@ fn free_sectors<S: ZoneStore>(
     ensures made { (k : Kept) (records : List Stated) → S.keeps store.old k → IsAtRest k
         → has_room k records ≡ true → lacked ≡ sectors_lacked k records
         → MakesRoom S.ZoneStore store.old store.new keep records k result }
-    ensures any_moment { (k : Kept) (records : List Stated) → S.keeps store.old k → IsAtRest k
-        → has_room k records ≡ true → lacked ≡ sectors_lacked k records
+    ensures any_moment { (k : Kept) (records : List Stated) → S.keeps store.old k → S.is_honest store.old
+        → IsAtRest k → has_room k records ≡ true → lacked ≡ sectors_lacked k records
         → LeavesMakingRoom S.ZoneStore store.old store.new keep records k }
     ensures quiet { OnOk result (S.failed store.new ≡ S.failed store.old) }
+    ensures honest { S.is_honest store.new ↔ S.is_honest store.old }
 {
     let Some(room) = lacked else {
         return Ok(());
@@ -103,8 +104,10 @@ fn store_plan<I: ZoneIndex, S: ZoneStore>(
     ensures stored { (k : Kept) → HasVersions S.keeps shown.old versions.old k → IsAtRest k
         → HasPlanRoom k plan → HasSectorsLeft k plan
         → StoresPlan S.ZoneStore versions.old versions.new plan k result }
-    ensures any_moment { (k : Kept) → HasVersions S.keeps shown.old versions.old k → IsAtRest k
-        → HasPlanRoom k plan → LeavesStoringPlan S.ZoneStore versions.old versions.new plan k }
+    ensures any_moment { (k : Kept) → HasVersions S.keeps shown.old versions.old k
+        → S.is_honest versions.old.store → IsAtRest k → HasPlanRoom k plan
+        → LeavesStoringPlan S.ZoneStore versions.old versions.new plan k }
+    ensures honest { S.is_honest versions.new.store ↔ S.is_honest versions.old.store }
 {
     match versions.stage(shown, plan) {
         Ok(()) => (),
@@ -132,8 +135,10 @@ fn load_change<I: ZoneIndex, S: ZoneStore>(
     requires change { IsChangeTo shown.old.records zone.now.records (Ok (Some change)) }
     ensures loaded { (k : Kept) → HasVersions S.keeps shown.old versions.old k → IsAtRest k
         → LoadsRecords S.ZoneStore versions.old.store versions.new.store keep zone.now.records k result }
-    ensures any_moment { (k : Kept) → HasVersions S.keeps shown.old versions.old k → IsAtRest k
+    ensures any_moment { (k : Kept) → HasVersions S.keeps shown.old versions.old k
+        → S.is_honest versions.old.store → IsAtRest k
         → LeavesLoadingRecords S.ZoneStore versions.old.store versions.new.store keep zone.now.records k }
+    ensures honest { S.is_honest versions.new.store ↔ S.is_honest versions.old.store }
 {
     let (added, removed) = (change.added().len(), change.removed().len());
     let plan = match plan_file(heap, versions, shown, zone, change) {
@@ -172,8 +177,10 @@ fn load_file<I: ZoneIndex, S: ZoneStore>(
     requires apex { zone.now.apex ≡ shown.old.apex }
     ensures loaded { (k : Kept) → HasVersions S.keeps shown.old versions.old k → IsAtRest k
         → LoadsRecords S.ZoneStore versions.old.store versions.new.store keep zone.now.records k result }
-    ensures any_moment { (k : Kept) → HasVersions S.keeps shown.old versions.old k → IsAtRest k
+    ensures any_moment { (k : Kept) → HasVersions S.keeps shown.old versions.old k
+        → S.is_honest versions.old.store → IsAtRest k
         → LeavesLoadingRecords S.ZoneStore versions.old.store versions.new.store keep zone.now.records k }
+    ensures honest { S.is_honest versions.new.store ↔ S.is_honest versions.old.store }
 {
     match change_to(heap, shown, zone) {
         Ok(Some(change)) => load_change(heap, versions, shown, keep, zone, change),
@@ -200,9 +207,11 @@ fn load_store<I: ZoneIndex, S: ZoneStore>(
     ensures loaded { (k : Kept) → S.keeps store k → IsLoadable file.entry.own.now file.entry.newest k
         → LoadsRecords S.ZoneStore store result.0 file.entry.own.now.keep file.entry.zone.now.records k
         result.1 }
-    ensures any_moment { (k : Kept) → S.keeps store k → IsLoadable file.entry.own.now file.entry.newest k
+    ensures any_moment { (k : Kept) → S.keeps store k → S.is_honest store
+        → IsLoadable file.entry.own.now file.entry.newest k
         → LeavesLoadingRecords S.ZoneStore store result.0 file.entry.own.now.keep
         file.entry.zone.now.records k }
+    ensures honest { S.is_honest result.0 ↔ S.is_honest store }
 {
     let LoadedFile {
         heap,
@@ -243,9 +252,11 @@ trait TakesFile<F>: Drop {
 impl<'a, I: ZoneIndex, S: ZoneStore> TakesFile<LoadedFile<'a, I>> for S {
     ghost can_take = { λ file. file.zone.now.apex ≡ file.newest.apex };
 
-    ghost took = { λ old new file result. (k : Kept) → S.keeps old k → IsLoadable file.own.now file.newest k
+    ghost took = { λ old new file result. (S.is_honest new ↔ S.is_honest old)
+        × ((k : Kept) → S.keeps old k → IsLoadable file.own.now file.newest k
         → LoadsRecords S.ZoneStore old new file.own.now.keep file.zone.now.records k result
-        × LeavesLoadingRecords S.ZoneStore old new file.own.now.keep file.zone.now.records k };
+        × (S.is_honest old
+        → LeavesLoadingRecords S.ZoneStore old new file.own.now.keep file.zone.now.records k)) };
 
     fn take_file(self, file: LoadedFile<'a, I>) -> (S, Result<Loaded, DeviceFault>) {
         load_store(self, file)

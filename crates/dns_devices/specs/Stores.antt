@@ -1,5 +1,5 @@
 -- What the device of a configured zone keeps, and why it is not opened.
-use Rattle.std.specs.Prelude.{◌≡◌, ◌⊎◌, ℕ, List, [], ◌∷◌, Ok, Err}
+use Rattle.std.specs.Prelude.{◌≡◌, ◌⊎◌, ◌↔◌, ℕ, List, [], ◌∷◌, Ok, Err}
 use Rattle.std.specs.String.{string_bytes}
 use Rattle.dns_zone.specs.Zone.{Zone}
 use Rattle.dns_sectors.specs.Device.{Content, LeavesOnly}
@@ -47,7 +47,8 @@ own_shape own = record { apex = own.origin; snapshot = own.snapshot_sectors; jou
 -- The store of the device that was opened at the path is this one, with its newest version: it keeps what a
 -- crash might have left of the device, opened once more, whichever versions there were before the base. A
 -- crash at any moment of it leaves what opens as one might have left it before. The device was intact, and
--- where some of its sectors were altered, the answer is that for the device before.
+-- where some of its sectors were altered, the answer is that for the device before. The device is as honest
+-- as it was.
 pub record IsStoreOpened {D I : Type 0} {g : Ghosts D} (calls : List (DeviceCall D)) (own : ZoneSettings)
     (store : KeptStore D I g) (newest : Zone) : Type 0 where
   pub device : D
@@ -63,6 +64,7 @@ pub record IsStoreOpened {D I : Type 0} {g : Ghosts D} (calls : List (DeviceCall
       → IsInRange own.snapshot_sectors own.journal_sectors
       → LeavesOnly g.moment g.left_since device (store_device store)
       (OpensAsPossible g (own_shape own) device)
+  pub honest : g.is_honest (store_device store) ↔ g.is_honest device
   pub quiet : g.failed (store_device store) ≡ g.failed device
 
 -- The zone is the newest version of what a crash might have left of the device that was opened at the path,

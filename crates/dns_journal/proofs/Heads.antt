@@ -30,6 +30,10 @@ unfolding entry_sectors old_entry_sectors
 whole One n size is = omega (arith, is)
 whole Two n size is = omega (arith, is)
 
+-- What is left of the octets is as long as the head says.
+pub kept_length : (f : Format) (n : ℕ) (items kept : List ℕ) → kept ≡ take n items → length items ≡ head_room_in f + payload_room_in f * (entry_sectors_in f n - 1) → length kept ≡ n
+kept_length f n items kept is size = ap (λ (l : List ℕ). length l) is ∙ length-take n items ∙ whole f n (length items) size
+
 no_bodies : (f : Format) (n : ℕ) (octets : ℕ) → n + 1 ≡ entry_sectors_in f octets → octets ≤ head_room_in f → n ≡ 0
 unfolding entry_sectors old_entry_sectors
 no_bodies One n octets is le = omega (arith, is, le)

@@ -1,7 +1,7 @@
 -- The sectors of a bank, pushed one after the other.
 use Rattle.std.proofs.Common.{◌≡◌, ℕ, zero, suc, ◌+◌, ◌-◌, ◌*◌, ◌≤◌, ◌<◌, List, [], ◌∷◌, ◌++◌, length, take, drop, replicate, refl, sym, ◌∙◌, ap, subst, arith, append_assoc, length-append}
 use Rattle.std.proofs.lemmas.List.{append-nil, take_more}
-use Rattle.std.proofs.lemmas.List.Sums.{sum_by-drop_more}
+use Rattle.std.proofs.lemmas.List.Sums.{sum_by-drop_more, sum_by-cons}
 use Rattle.std.specs.Prelude.{min, sum_by, get_or}
 use Rattle.std.specs.List.{flat_map}
 use Rattle.dns_sectors.specs.Crash.{Write}
@@ -132,6 +132,16 @@ entries_count [] [] are = refl
 entries_count [] (e ∷ es) are = absurd are
 entries_count (c ∷ cs) [] are = absurd are
 entries_count (c ∷ cs) (e ∷ es) are = omega (arith, entries_count cs es are.1)
+
+pub entries_behind : (cs : List Change) (es : List Entry) (at : ℕ) → AreEntries cs es → place_behind at es ≡ at + sum_by sectors_for cs
+entries_behind [] [] at are = omega arith
+entries_behind [] (e ∷ es) at are = absurd are
+entries_behind (c ∷ cs) [] at are = absurd are
+entries_behind (c ∷ cs) (e ∷ es) at are =
+    let rest = entries_behind cs es (at + entry_size e) are.1 in
+    let size : entry_size e ≡ sectors_for c = are.0.size_is in
+    let sum : place_behind (at + entry_size e) es ≡ at + (sectors_for c + sum_by sectors_for cs) = omega (arith, rest, size) in
+    sum ∙ ap (λ n. at + n) (sym (sum_by-cons sectors_for c cs))
 
 pub versions_count : (es : List Entry) (version : ℕ) → version_behind version es ≡ version + length es
 versions_count [] version = omega arith

@@ -117,6 +117,11 @@ snapshot_room_of journal = journal.root.snapshot_room
 abbrev pub journal_room_of : {D : Type 0} {g : Ghosts D} → Journal D g → ℕ
 journal_room_of journal = journal.root.journal_room
 
+-- the two rooms of a bank are those that they were
+abbrev pub StayRooms : {D : Type 0} {g : Ghosts D} → Journal D g → Journal D g → Type 0
+StayRooms old new =
+    (snapshot_room_of new ≡ snapshot_room_of old) × (journal_room_of new ≡ journal_room_of old)
+
 -- the sizes that a root says
 abbrev pub sizes_said : Root → Sizes
 sizes_said r = record { snapshot = r.snapshot_room; journal = r.journal_room; apex = r.apex }

@@ -1,6 +1,6 @@
 //! A bank that is written whole: the parts of a snapshot and the entries after them are written and made
 //! durable, and then the root is turned to it.
-ghost use Rattle.std.specs.Prelude.{◌≡◌, ◌≢◌, ◌⊎◌, ◌≤◌, ◌<◌, ◌↔◌, ◌+◌, ◌-◌, ◌*◌, ◌^◌, [], true, ℕ};
+ghost use Rattle.std.specs.Prelude.{◌≡◌, ◌≢◌, ◌⊎◌, ◌≤◌, ◌<◌, ◌↔◌, ◌+◌, ◌-◌, ◌*◌, ◌^◌, [], true, false, ℕ};
 ghost use Rattle.std.specs.Prelude.{length};
 ghost use Rattle.std.specs.Prelude.{IfOk, OnOk, OnErr, sum_by};
 ghost use Rattle.dns_sectors.specs.Device.{Only, LeavesOnly, CountsFailure};
@@ -65,8 +65,9 @@ impl<D: Sectors> Journal<D> {
     ghost use Rattle.dns_journal.specs.State.{Keeps, JournalLeavesOnly, HasJournalFailed, is_closed};
     ghost use Rattle.dns_journal.specs.State.{device_of};
     ghost use Rattle.dns_journal.specs.State.{free_sectors, newest_number_of};
-    ghost use Rattle.dns_journal.specs.State.{opened_of};
+    ghost use Rattle.dns_journal.specs.State.{opened_of, IsIdle};
     ghost use Rattle.dns_journal.specs.Bank.{IsTurned, LeavesEither, snapshot_room_of, journal_room_of};
+    ghost use Rattle.dns_journal.specs.Bank.{StayRooms};
 
     /// With nothing staged, writes a snapshot with these octets and the entries of these newest changes into
     /// the bank that isn't in use, and makes them durable; then turns the root to that bank. It makes all
@@ -90,6 +91,11 @@ impl<D: Sectors> Journal<D> {
         ensures quiet { OnOk result (D.failed (device_of self.new) ≡ D.failed (device_of self.old)) }
         ensures stays { OnErr result ((result ≡ Err TurnError.Device) ⊎ (self.new ≡ self.old)) }
         ensures left { OnErr result (free_sectors self.new ≡ free_sectors self.old) }
+        ensures fits { OnOk result
+            (free_sectors self.new ≡ journal_room_of self.old - sum_by sectors_for changes.now) }
+        ensures idle { OnOk result (IsIdle self.old → IsIdle self.new) }
+        ensures open { OnOk result (is_closed self.new ≡ false) }
+        ensures rooms { StayRooms self.old self.new }
         ensures newest { newest_number_of self.new ≡ newest_number_of self.old }
         ensures opened { opened_of self.new ≡ opened_of self.old }
         ensures honest { D.is_honest (device_of self.new) ↔ D.is_honest (device_of self.old) }
@@ -239,7 +245,8 @@ pub(crate) fn write_bank(
         (λ r. AllWithin (1 + 2 * (root.now.snapshot_room + root.now.journal_room)) r.0.items) }
     ensures next { IfOk result (λ r. (r.1.at ≤ r.1.until)
         × (r.1.until ≤ 1 + 2 * (root.now.snapshot_room + root.now.journal_room))
-        × (r.1.version ≡ base + length changes.now)) }
+        × (r.1.version ≡ base + length changes.now)
+        × (r.1.until - r.1.at ≡ root.now.journal_room - sum_by sectors_for changes.now)) }
 {
     let rooms = root.snapshot_room as usize + root.journal_room as usize;
     let first = 1 + other_bank(root.bank).number() as usize * rooms;

@@ -14,7 +14,7 @@ use Rattle.dns_primary.specs.Machine.{Machine, ZoneState, kept_of}
 use Rattle.dns_primary.specs.Runs.{Moment, Took, machine_at_end, machine_after}
 use Rattle.dns_primary.specs.Step as machine
 use Rattle.dns_primary.specs.Step.{Event, base_moved}
-use Rattle.dns_primary.specs.Steps.{AtAnyMomentOf, OpensAsEvent, with_rooms}
+use Rattle.dns_primary.specs.Steps.{AtAnyMomentOf, LeavesIfHonest, OpensAsEvent, StayHonest, with_rooms}
 use Rattle.dns_network.specs.Left.{AreLeftFrom, LeadsThrough, OpensInRun, RestLaw}
 
 -- What is at a position of a list, counted from another.
@@ -42,7 +42,7 @@ module _ {I S : Type 0} (s : store.Ghosts S) where
       → HaveVersions s.keeps zones pending states → AreLeftFrom s index m [] pending pending
   rest_from law m index [] [] [] at kept = tt
   rest_from law m index (y ∷ zones) (b ∷ pending) (z ∷ states) at kept = (
-    started s.moment s.left_since b.store (OpensInRun s.opens m [] index) (λ c left. (z, at_here m.zones index z states at, law b.store (kept_of z) (kept.0).kept c left)),
+    ((λ h. h, λ h. h), λ honest. started s.moment s.left_since b.store (OpensInRun s.opens m [] index) (λ c left. (z, at_here m.zones index z states at, law b.store (kept_of z) (kept.0).kept honest c left))),
     rest_from law m (suc index) zones pending states (at_next m.zones index z states at) kept.1,
   )
   rest_from law m index [] (b ∷ pending) states at kept = absurd kept
@@ -52,26 +52,32 @@ module _ {I S : Type 0} (s : store.Ghosts S) where
 
   event_from : (m : Machine) (event : Event) (fails : List Bool) (stated : machine.Effects) (next : Machine) (index : ℕ) (olds news : List (ZoneVersions I S)) (ks : List (Option ℕ × ZoneState))
       → ((j : ℕ) → slice_get (with_rooms (base_moved m event) m.zones) (index + j) ≡ slice_get ks j)
-      → Each3 (λ a b k. LeavesOnly s.moment s.left_since a.store b.store (OpensAsEvent s.opens k.0 k.1)) olds news ks
+      → Each3 (λ a b k. LeavesIfHonest s a.store b.store (OpensAsEvent s.opens k.0 k.1)) olds news ks → StayHonest s olds news
       → AreLeftFrom s index m (Took event fails stated next ∷ []) olds news
-  event_from m event fails stated next index [] [] [] at is = tt
-  event_from m event fails stated next index (a ∷ olds) (b ∷ news) (k ∷ ks) at is = (
-    weaker s.moment s.left_since a.store b.store (OpensAsEvent s.opens k.0 k.1) (OpensInRun s.opens m (Took event fails stated next ∷ []) index) is.0
-        (λ c left. inr (inl (k, at_here (with_rooms (base_moved m event) m.zones) index k ks at, left))),
-    event_from m event fails stated next (suc index) olds news ks (at_next (with_rooms (base_moved m event) m.zones) index k ks at) is.1,
+  event_from m event fails stated next index [] [] [] at is same = tt
+  event_from m event fails stated next index (a ∷ olds) (b ∷ news) (k ∷ ks) at is same = (
+    (
+      same.0,
+      λ honest. weaker s.moment s.left_since a.store b.store (OpensAsEvent s.opens k.0 k.1) (OpensInRun s.opens m (Took event fails stated next ∷ []) index) (is.0 honest)
+          (λ c left. inr (inl (k, at_here (with_rooms (base_moved m event) m.zones) index k ks at, left))),
+    ),
+    event_from m event fails stated next (suc index) olds news ks (at_next (with_rooms (base_moved m event) m.zones) index k ks at) is.1 same.1,
   )
-  event_from m event fails stated next index [] (b ∷ news) ks at is = absurd is
-  event_from m event fails stated next index (a ∷ olds) [] ks at is = absurd is
-  event_from m event fails stated next index [] [] (k ∷ ks) at is = absurd is
-  event_from m event fails stated next index (a ∷ olds) (b ∷ news) [] at is = absurd is
+  event_from m event fails stated next index [] (b ∷ news) ks at is same = absurd is
+  event_from m event fails stated next index (a ∷ olds) [] ks at is same = absurd is
+  event_from m event fails stated next index [] [] (k ∷ ks) at is same = absurd is
+  event_from m event fails stated next index (a ∷ olds) (b ∷ news) [] at is same = absurd is
 
   on_from : (m : Machine) (first later : List Moment) (index : ℕ) (olds mids news : List (ZoneVersions I S)) → AreLeftFrom s index m first olds mids
       → AreLeftFrom s index (machine_at_end m first) later mids news → AreLeftFrom s index m (first ++ later) olds news
   on_from m first later index [] [] [] h k = tt
   on_from m first later index (a ∷ olds) (b ∷ mids) (d ∷ news) h k = (
-    joined s.moment s.left_since a.store b.store d.store (OpensInRun s.opens m (first ++ later) index) (OpensInRun s.opens (machine_at_end m first) later index)
-        (weaker s.moment s.left_since a.store b.store (OpensInRun s.opens m first index) (OpensInRun s.opens m (first ++ later) index) h.0 (λ c left. front s m first later index c left)) k.0
-        (λ c left. behind s m first later index c left),
+    (
+      (λ x. h.0.0.0 (k.0.0.0 x), λ x. k.0.0.1 (h.0.0.1 x)),
+      λ honest. joined s.moment s.left_since a.store b.store d.store (OpensInRun s.opens m (first ++ later) index) (OpensInRun s.opens (machine_at_end m first) later index)
+          (weaker s.moment s.left_since a.store b.store (OpensInRun s.opens m first index) (OpensInRun s.opens m (first ++ later) index) (h.0.1 honest) (λ c left. front s m first later index c left)) (k.0.1 (h.0.0.1 honest))
+          (λ c left. behind s m first later index c left),
+    ),
     on_from m first later (suc index) olds mids news h.1 k.1,
   )
   on_from m first later index [] (b ∷ mids) news h k = absurd h
@@ -90,6 +96,6 @@ module _ {I S : Type 0} {i : zone_index.Ghosts I} {s : store.Ghosts S} where
   leads_on m first later old mid new h k = on_from s m first later 0 old.pending.items mid.pending.items new.pending.items h k
 
   -- One event.
-  pub led_by : (m : Machine) (event : Event) (fails : List Bool) (stated : machine.Effects) (next : Machine) (old new : Primary I S i s) → AtAnyMomentOf s (base_moved m event) m old.pending.items new.pending.items → LeadsThrough old new m (Took event fails stated next ∷ [])
-  led_by m event fails stated next old new is =
-      event_from s m event fails stated next 0 old.pending.items new.pending.items (with_rooms (base_moved m event) m.zones) (λ j. ap (slice_get (with_rooms (base_moved m event) m.zones)) (let e : 0 + j ≡ j = omega arith in e)) is
+  pub led_by : (m : Machine) (event : Event) (fails : List Bool) (stated : machine.Effects) (next : Machine) (old new : Primary I S i s) → AtAnyMomentOf s (base_moved m event) m old.pending.items new.pending.items → StayHonest s old.pending.items new.pending.items → LeadsThrough old new m (Took event fails stated next ∷ [])
+  led_by m event fails stated next old new is same =
+      event_from s m event fails stated next 0 old.pending.items new.pending.items (with_rooms (base_moved m event) m.zones) (λ j. ap (slice_get (with_rooms (base_moved m event) m.zones)) (let e : 0 + j ≡ j = omega arith in e)) is same

@@ -101,7 +101,7 @@ module _ {I D : Type 0} {i : zone_index.Ghosts I} {d : store.Ghosts D} where
         runs = (step.is, tt);
         each = ((refl, step.effects_are.sent, step.effects_are.accepted, step.effects_are.noted), tt);
         kept = step.kept;
-        left = λ law. led_by m event step.fails step.stated step.next old new step.any_moment;
+        left = λ law. led_by m event step.fails step.stated step.next old new step.any_moment step.honest;
       }
 
   closing_told : (number : ℕ) (effects : Effects) (old new : Primary I D i d) (m : Machine) → TakesEvent old (Closed number) new effects → IsKept old m
@@ -113,7 +113,7 @@ module _ {I D : Type 0} {i : zone_index.Ghosts I} {d : store.Ghosts D} where
         runs = (step.is, tt);
         each = (closing_is number step.fails m step.next step.stated step.is, tt);
         kept = step.kept;
-        left = λ law. led_by m (Closed number) step.fails step.stated step.next old new step.any_moment;
+        left = λ law. led_by m (Closed number) step.fails step.stated step.next old new step.any_moment step.honest;
       }
 
 module _ {I D S N L : Type 0} {i : zone_index.Ghosts I} {d : store.Ghosts D} (n : Ghosts N S) (l : notes.Ghosts L) where

@@ -1,5 +1,5 @@
 -- What a crash within a run of the machine leaves of the stores of a primary.
-use Rattle.std.specs.Prelude.{◌≡◌, ◌⊎◌, ℕ, suc, List, [], ◌∷◌, Option, Some, slice_get}
+use Rattle.std.specs.Prelude.{◌≡◌, ◌⊎◌, ◌↔◌, ℕ, suc, List, [], ◌∷◌, Option, Some, slice_get}
 use Rattle.dns_zone.specs.declared.index.ZoneIndex as zone_index
 use Rattle.dns_sectors.specs.Device.{Content, LeavesOnly}
 use Rattle.dns_store.specs.declared.zone_store.ZoneStore as store
@@ -36,21 +36,29 @@ OpensInRun opens m (t ∷ run) index c =
     ⊎ OpensWithinMoment opens m t index c
     ⊎ OpensInRun opens (machine_after t) run index c
 
--- A crash at any moment between the two leaves each store so, from this position on.
+-- The store's device is as honest as it was; and if it is honest, a crash at any moment between the two
+-- leaves of it what has P.
+abbrev pub IsLeftSo : {S : Type 0} → store.Ghosts S → S → S → (Content → Type 0) → Type 0
+IsLeftSo s old new P =
+    (s.is_honest new ↔ s.is_honest old) × (s.is_honest old → LeavesOnly s.moment s.left_since old new P)
+
+-- A crash at any moment between the two leaves each store on an honest device so, from this position on.
 abbrev pub AreLeftFrom : {I S : Type 0} → store.Ghosts S → ℕ → Machine → List Moment
     → List (ZoneVersions I S) → List (ZoneVersions I S) → Type 0
 AreLeftFrom s index m run [] [] = Unit {0}
 AreLeftFrom s index m run (a ∷ olds) (b ∷ news) =
-    LeavesOnly s.moment s.left_since a.store b.store (OpensInRun s.opens m run index)
+    IsLeftSo s a.store b.store (OpensInRun s.opens m run index)
     × AreLeftFrom s (suc index) m run olds news
 AreLeftFrom s index m run _ _ = ⊥
 
--- The run led from one primary to another: a crash at any moment of it leaves each zone's store as it allows.
+-- The run led from one primary to another: a crash at any moment of it leaves each zone's store, if its
+-- device is honest, as it allows.
 abbrev pub LeadsThrough : {I S : Type 0} {i : zone_index.Ghosts I} {s : store.Ghosts S} → Primary I S i s
     → Primary I S i s → Machine → List Moment → Type 0
 LeadsThrough {s} old new m run = AreLeftFrom s 0 m run old.pending.items new.pending.items
 
--- Between two calls a crash leaves the versions that are kept: a law of each store.
+-- Between two calls a crash of an honest device leaves the versions that are kept: a law of each store.
 abbrev pub RestLaw : {S : Type 0} → store.Ghosts S → Type 0
 RestLaw {S} s =
-    (x : S) (k : Kept) → s.keeps x k → (c : Content) → s.left_since x (s.moment x) c → OpensAsLeft s.opens k c
+    (x : S) (k : Kept) → s.keeps x k → s.is_honest x → (c : Content) → s.left_since x (s.moment x) c
+    → OpensAsLeft s.opens k c

@@ -51,6 +51,9 @@ beyond (z ∷ zs) (suc i) le = beyond zs i (omega arith)
 pub moved3 : {A B C : Type 0} {xs new : List A} {ys other : List B} → xs ≡ new → ys ≡ other → (zs : List C) (R : A → B → C → Type 0) → Each3 R xs ys zs → Each3 R new other zs
 moved3 {A = A} {B = B} {C = C} {xs = xs} {new = new} {ys = ys} {other = other} a b zs R each = subst (λ (l : List A). Each3 R l other zs) a (subst (λ (l : List B). Each3 R xs l zs) b each)
 
+pub moved2 : {A B : Type 0} {xs new : List A} {ys other : List B} → xs ≡ new → ys ≡ other → (R : A → B → Type 0) → Each2 R xs ys → Each2 R new other
+moved2 {A = A} {B = B} {xs = xs} {new = new} {ys = ys} {other = other} a b R each = subst (λ (l : List A). Each2 R l other) a (subst (λ (l : List B). Each2 R xs l) b each)
+
 pub failed_at : {A : Type 0} (failed : A → ℕ) (fails : List Bool) {olds others news more : List A} → olds ≡ others → news ≡ more → FailedWhere failed fails olds news → FailedWhere failed fails others more
 failed_at {A} failed fails {olds} {others} {news} {more} a b h = subst (λ (l : List A). FailedWhere failed fails l more) a (subst (λ (l : List A). FailedWhere failed fails olds l) b h)
 

@@ -1,6 +1,6 @@
 -- Devices that are handed out by a machine, between two events or within one.
 use Rattle.std.proofs.Common.{◌≡◌, ◌≤◌, ◌+◌, ℕ, zero, suc, Option, Some, None, List, [], ◌∷◌, map, refl, subst, arith}
-use Rattle.std.specs.List.{AllByRecursion}
+use Rattle.std.specs.Prelude.{◌↔◌}
 use Rattle.dns_names.specs.Name.{Labels}
 use Rattle.dns_zone.specs.Zone.{Zone}
 use Rattle.dns_sectors.specs.Device.{Content, LeavesOnly}
@@ -8,10 +8,10 @@ use Rattle.dns_sectors.specs.declared.device.Sectors.{Ghosts}
 use Rattle.dns_journal.specs.State.{device_of}
 use Rattle.dns_store.specs.Opens.{opens}
 use Rattle.dns_store.specs.Opening.{keeps}
-use Rattle.dns_store.specs.Laws.{at_rest_of, honest_of}
+use Rattle.dns_store.specs.Laws.{at_rest_of}
 use Rattle.dns_store.specs.declared.kept_store.KeptStore.{KeptStore}
 use Rattle.dns_versions.specs.declared.zone_versions.ZoneVersions.{ZoneVersions}
-use Rattle.dns_versions.specs.Each.{Each3}
+use Rattle.dns_versions.specs.Each.{Each2, Each3}
 use Rattle.dns_versions.specs.Held.{HasVersions}
 use Rattle.dns_primary.specs.declared.primary.ZoneSpec.{ZoneSpec}
 use Rattle.dns_primary.specs.Machine.{ZoneState, Machine, kept_of}
@@ -32,13 +32,11 @@ module _ {D I : Type 0} {g : Ghosts D} (m : Machine) (event : Event)
     rests_recoverable making a s z zone b so h =
         let k = kept_of z in
         let journal = b.store.journal in
-        let honest = honest_of journal k k.closed h.kept.keeps in
         record {
           shape = so.shape;
           set = so.set;
           range = so.range;
-          honest = honest;
-          leaves = λ c left. left_recovered making z c (at_rest_of only_now journal k k.closed h.kept.keeps c (counts_now (device_of journal) (g.moment (device_of journal)) c honest (omega arith) left));
+          leaves = λ honest c left. left_recovered making z c (at_rest_of only_now journal k k.closed (h.kept.keeps honest) c (counts_now (device_of journal) (g.moment (device_of journal)) c honest (omega arith) left));
         }
 
     pub rest_recoverable : (index : ℕ) (zones : List Zone) (pending : List (ZoneVersions I (KeptStore D I g))) (states : List ZoneState) (apexes : List Labels) (settings : List ZoneSpec)
@@ -54,62 +52,60 @@ module _ {D I : Type 0} {g : Ghosts D} (m : Machine) (event : Event)
     rest_recoverable index zones pending (z ∷ states) (a ∷ apexes) [] held so = absurd so
     rest_recoverable index _ _ _ apexes settings held so = absurd held
 
-    pub all_honest : (zones : List Zone) (pending : List (ZoneVersions I (KeptStore D I g))) (states : List ZoneState) → HaveVersions (λ (x : KeptStore D I g) k. keeps x k) zones pending states → AllByRecursion (λ b. g.is_honest (device_of_pending b)) pending
-    all_honest [] [] [] held = tt
-    all_honest (y ∷ zones) (b ∷ pending) (z ∷ states) held =
-        (honest_of b.store.journal (kept_of z) (kept_of z).closed held.0.kept.keeps, all_honest zones pending states held.1)
-    all_honest _ _ _ held = absurd held
-
     -- within an event
     abbrev pub LeavesZone : ZoneVersions I (KeptStore D I g) → ZoneVersions I (KeptStore D I g) → Option ℕ × ZoneState → Type 0
-    LeavesZone a b k = LeavesOnly (λ (x : KeptStore D I g). g.moment (device_of x.journal)) (λ (x : KeptStore D I g). g.left_since (device_of x.journal)) a.store b.store (OpensAsEvent opens k.0 k.1)
+    LeavesZone a b k = g.is_honest (device_of_pending a) → LeavesOnly (λ (x : KeptStore D I g). g.moment (device_of x.journal)) (λ (x : KeptStore D I g). g.left_since (device_of x.journal)) a.store b.store (OpensAsEvent opens k.0 k.1)
 
-    left_now : (making : ℕ → Type 0) (a : Labels) (s : ZoneSpec) (z : ZoneState) (old new : ZoneVersions I (KeptStore D I g)) (room : Option ℕ) → IsSetAs a s z → g.is_honest (device_of_pending new) → LeavesZone old new (room, z)
+    abbrev pub IsAsHonest : ZoneVersions I (KeptStore D I g) → ZoneVersions I (KeptStore D I g) → Type 0
+    IsAsHonest a b = g.is_honest (device_of_pending b) ↔ g.is_honest (device_of_pending a)
+
+    left_now : (making : ℕ → Type 0) (a : Labels) (s : ZoneSpec) (z : ZoneState) (old new : ZoneVersions I (KeptStore D I g)) (room : Option ℕ) → IsSetAs a s z → IsAsHonest old new → LeavesZone old new (room, z)
         → ((c : Content) → OpensAsEvent opens room z c → OpensAsRecovered opens 0 making z c) → IsRecoverable g 0 making z a s (device_of_pending new)
-    left_now making a s z old new room so honest leaves recovers = record {
+    left_now making a s z old new room so same leaves recovers = record {
       shape = so.shape;
       set = so.set;
       range = so.range;
-      honest = honest;
-      leaves = λ c left. recovers c (leaves.each c (counts_now (device_of_pending new) (g.moment (device_of_pending old)) c honest leaves.later left));
+      leaves = λ honest c left.
+          (let run = leaves (same.0 honest) in
+          recovers c (run.each c (counts_now (device_of_pending new) (g.moment (device_of_pending old)) c honest run.later left)));
     }
 
     none_moved : (index : ℕ) (olds news : List (ZoneVersions I (KeptStore D I g))) (states : List ZoneState) (apexes : List Labels) (settings : List ZoneSpec)
-        → AreSetAs apexes settings states → AllByRecursion (λ b. g.is_honest (device_of_pending b)) news → Each3 LeavesZone olds news (map without_room states) → AreRecoverable g 0 m event index states apexes settings (map (λ b. device_of_pending b) news)
-    none_moved index [] [] [] [] [] so honest leaves = tt
-    none_moved index (o ∷ olds) (n ∷ news) (z ∷ states) (a ∷ apexes) (s ∷ settings) so honest leaves =
-        (left_now (IsMaking m event index z) a s z o n None so.0 honest.0 leaves.0 (λ c is. left_recovered (IsMaking m event index z) z c is), none_moved (suc index) olds news states apexes settings so.1 honest.1 leaves.1)
-    none_moved index olds news [] (a ∷ apexes) [] so honest leaves = absurd so
-    none_moved index olds news [] (a ∷ apexes) (s ∷ settings) so honest leaves = absurd so
-    none_moved index olds news [] [] (s ∷ settings) so honest leaves = absurd so
-    none_moved index olds news (z ∷ states) [] [] so honest leaves = absurd so
-    none_moved index olds news (z ∷ states) [] (s ∷ settings) so honest leaves = absurd so
-    none_moved index olds news (z ∷ states) (a ∷ apexes) [] so honest leaves = absurd so
-    none_moved index _ _ _ apexes settings so honest leaves = absurd leaves
+        → AreSetAs apexes settings states → Each2 IsAsHonest olds news → Each3 LeavesZone olds news (map without_room states) → AreRecoverable g 0 m event index states apexes settings (map (λ b. device_of_pending b) news)
+    none_moved index [] [] [] [] [] so same leaves = tt
+    none_moved index (o ∷ olds) (n ∷ news) (z ∷ states) (a ∷ apexes) (s ∷ settings) so same leaves =
+        (left_now (IsMaking m event index z) a s z o n None so.0 same.0 leaves.0 (λ c is. left_recovered (IsMaking m event index z) z c is), none_moved (suc index) olds news states apexes settings so.1 same.1 leaves.1)
+    none_moved index olds news [] (a ∷ apexes) [] so same leaves = absurd so
+    none_moved index olds news [] (a ∷ apexes) (s ∷ settings) so same leaves = absurd so
+    none_moved index olds news [] [] (s ∷ settings) so same leaves = absurd so
+    none_moved index olds news (z ∷ states) [] [] so same leaves = absurd so
+    none_moved index olds news (z ∷ states) [] (s ∷ settings) so same leaves = absurd so
+    none_moved index olds news (z ∷ states) (a ∷ apexes) [] so same leaves = absurd so
+    none_moved index _ _ _ apexes settings so same leaves = absurd leaves
 
     one_moved : (index pending room : ℕ) (olds news : List (ZoneVersions I (KeptStore D I g))) (states : List ZoneState) (apexes : List Labels) (settings : List ZoneSpec)
         → Checkpoints m event (index + pending) room
-        → AreSetAs apexes settings states → AllByRecursion (λ b. g.is_honest (device_of_pending b)) news → Each3 LeavesZone olds news (with_room pending room states) → AreRecoverable g 0 m event index states apexes settings (map (λ b. device_of_pending b) news)
-    one_moved index zero room [] [] [] [] [] makes so honest leaves = tt
-    one_moved index (suc pending) room [] [] [] [] [] makes so honest leaves = tt
-    one_moved index zero room (o ∷ olds) (n ∷ news) (z ∷ states) (a ∷ apexes) (s ∷ settings) makes so honest leaves =
+        → AreSetAs apexes settings states → Each2 IsAsHonest olds news → Each3 LeavesZone olds news (with_room pending room states) → AreRecoverable g 0 m event index states apexes settings (map (λ b. device_of_pending b) news)
+    one_moved index zero room [] [] [] [] [] makes so same leaves = tt
+    one_moved index (suc pending) room [] [] [] [] [] makes so same leaves = tt
+    one_moved index zero room (o ∷ olds) (n ∷ news) (z ∷ states) (a ∷ apexes) (s ∷ settings) makes so same leaves =
         let here : Checkpoints m event index room = subst (λ (p : ℕ). Checkpoints m event p room) (let e : index + 0 ≡ index = omega arith in e) makes in
-        (left_now (IsMaking m event index z) a s z o n (Some room) so.0 honest.0 leaves.0 (λ c is. checkpoint_recovered m event index room z c here is), none_moved (suc index) olds news states apexes settings so.1 honest.1 leaves.1)
-    one_moved index (suc pending) room (o ∷ olds) (n ∷ news) (z ∷ states) (a ∷ apexes) (s ∷ settings) makes so honest leaves =
+        (left_now (IsMaking m event index z) a s z o n (Some room) so.0 same.0 leaves.0 (λ c is. checkpoint_recovered m event index room z c here is), none_moved (suc index) olds news states apexes settings so.1 same.1 leaves.1)
+    one_moved index (suc pending) room (o ∷ olds) (n ∷ news) (z ∷ states) (a ∷ apexes) (s ∷ settings) makes so same leaves =
         let later : Checkpoints m event (suc index + pending) room = subst (λ (p : ℕ). Checkpoints m event p room) (let e : index + suc pending ≡ suc index + pending = omega arith in e) makes in
-        (left_now (IsMaking m event index z) a s z o n None so.0 honest.0 leaves.0 (λ c is. left_recovered (IsMaking m event index z) z c is), one_moved (suc index) pending room olds news states apexes settings later so.1 honest.1 leaves.1)
-    one_moved index pending room olds news [] (a ∷ apexes) [] makes so honest leaves = absurd so
-    one_moved index pending room olds news [] (a ∷ apexes) (s ∷ settings) makes so honest leaves = absurd so
-    one_moved index pending room olds news [] [] (s ∷ settings) makes so honest leaves = absurd so
-    one_moved index pending room olds news (z ∷ states) [] [] makes so honest leaves = absurd so
-    one_moved index pending room olds news (z ∷ states) [] (s ∷ settings) makes so honest leaves = absurd so
-    one_moved index pending room olds news (z ∷ states) (a ∷ apexes) [] makes so honest leaves = absurd so
-    one_moved index zero room _ _ _ apexes settings makes so honest leaves = absurd leaves
-    one_moved index (suc pending) room _ _ _ apexes settings makes so honest leaves = absurd leaves
+        (left_now (IsMaking m event index z) a s z o n None so.0 same.0 leaves.0 (λ c is. left_recovered (IsMaking m event index z) z c is), one_moved (suc index) pending room olds news states apexes settings later so.1 same.1 leaves.1)
+    one_moved index pending room olds news [] (a ∷ apexes) [] makes so same leaves = absurd so
+    one_moved index pending room olds news [] (a ∷ apexes) (s ∷ settings) makes so same leaves = absurd so
+    one_moved index pending room olds news [] [] (s ∷ settings) makes so same leaves = absurd so
+    one_moved index pending room olds news (z ∷ states) [] [] makes so same leaves = absurd so
+    one_moved index pending room olds news (z ∷ states) [] (s ∷ settings) makes so same leaves = absurd so
+    one_moved index pending room olds news (z ∷ states) (a ∷ apexes) [] makes so same leaves = absurd so
+    one_moved index zero room _ _ _ apexes settings makes so same leaves = absurd leaves
+    one_moved index (suc pending) room _ _ _ apexes settings makes so same leaves = absurd leaves
 
     pub event_recoverable : (moved : Option (ℕ × ℕ)) (olds news : List (ZoneVersions I (KeptStore D I g))) (states : List ZoneState) (apexes : List Labels) (settings : List ZoneSpec)
         → ((p r : ℕ) → moved ≡ Some (p, r) → Checkpoints m event p r)
-        → AreSetAs apexes settings states → AllByRecursion (λ b. g.is_honest (device_of_pending b)) news → Each3 LeavesZone olds news (with_rooms moved states) → AreRecoverable g 0 m event 0 states apexes settings (map (λ b. device_of_pending b) news)
-    event_recoverable None olds news states apexes settings makes so honest leaves = none_moved 0 olds news states apexes settings so honest leaves
-    event_recoverable (Some (p, r)) olds news states apexes settings makes so honest leaves =
-        one_moved 0 p r olds news states apexes settings (subst (λ (i : ℕ). Checkpoints m event i r) (let e : p ≡ 0 + p = omega arith in e) (makes p r refl)) so honest leaves
+        → AreSetAs apexes settings states → Each2 IsAsHonest olds news → Each3 LeavesZone olds news (with_rooms moved states) → AreRecoverable g 0 m event 0 states apexes settings (map (λ b. device_of_pending b) news)
+    event_recoverable None olds news states apexes settings makes so same leaves = none_moved 0 olds news states apexes settings so same leaves
+    event_recoverable (Some (p, r)) olds news states apexes settings makes so same leaves =
+        one_moved 0 p r olds news states apexes settings (subst (λ (i : ℕ). Checkpoints m event i r) (let e : p ≡ 0 + p = omega arith in e) (makes p r refl)) so same leaves

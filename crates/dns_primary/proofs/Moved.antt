@@ -15,7 +15,7 @@ use Rattle.dns_store.specs.declared.checkpoint.CheckpointError.{CheckpointError}
 use Rattle.dns_store.specs.declared.checkpoint.CheckpointError.TheVariants as refused
 use Rattle.dns_store.specs.Versions.{Shape, Opened, Kept, OpensAsLeft, moved_to}
 use Rattle.dns_versions.specs.declared.zone_versions.ZoneVersions.{ZoneVersions}
-use Rattle.dns_versions.specs.Each.{Each3}
+use Rattle.dns_versions.specs.Each.{Each2, Each3}
 use Rattle.dns_versions.specs.Held.{HasVersions}
 use Rattle.dns_versions.specs.Flush as held
 use Rattle.dns_versions.specs.Flush.{first_true, HasFailed, IsCounted, FailedWhere}
@@ -32,7 +32,7 @@ use Rattle.dns_primary.specs.Step.{Step, noted_of, IsCheckpointed, Checkpoint, b
 use Rattle.dns_primary.specs.Keeps.{IsKept, AreEffects}
 use Rattle.dns_primary.specs.Steps.{Stepped, SteppedOn, SteppedBy, IsBegunOrLacks, AtAnyMoment, AtAnyMomentOf, OpensAsEvent, with_room, without_room, noted_then, noted_moved, nothing}
 use Rattle.dns_primary.proofs.Flushed.{kept_flushed}
-use Rattle.dns_primary.proofs.Served.{gives_none}
+use Rattle.dns_primary.proofs.Served.{as_honest, gives_none}
 use Rattle.dns_store.specs.Versions.{closed_between, OpensAsEither, StandsStill}
 use Rattle.dns_store.specs.Checkpoint.{IsKeptNumber}
 use Rattle.dns_versions.proofs.Moved.{number_there, move_leaves}
@@ -41,12 +41,12 @@ use Rattle.dns_primary.specs.Machine.{Setting, versions_of}
 use Rattle.dns_primary.proofs.Places.{set_same}
 
 -- where no base is moved
-without : {S B : Type 0} (store : B → S) (moment : S → ℕ) (left_since : S → ℕ → Content → Type 0) (opens : Shape → Opened → Content → Type 0) (olds news : List B) (zones : List ZoneState)
-    → Each3 (λ a b k. LeavesOnly moment left_since (store a) (store b) (OpensAsLeft opens k)) olds news (map kept_of zones)
-    → Each3 (λ a b k. LeavesOnly moment left_since (store a) (store b) (OpensAsEvent opens k.0 k.1)) olds news (map without_room zones)
-without store moment left_since opens [] [] [] each = tt
-without store moment left_since opens (a ∷ olds) (b ∷ news) (z ∷ zones) each = (each.0, without store moment left_since opens olds news zones each.1)
-without store moment left_since opens _ _ _ each = absurd each
+without : {S B : Type 0} (store : B → S) (is_honest : S → Type 0) (moment : S → ℕ) (left_since : S → ℕ → Content → Type 0) (opens : Shape → Opened → Content → Type 0) (olds news : List B) (zones : List ZoneState)
+    → Each3 (λ a b k. is_honest (store a) → LeavesOnly moment left_since (store a) (store b) (OpensAsLeft opens k)) olds news (map kept_of zones)
+    → Each3 (λ a b k. is_honest (store a) → LeavesOnly moment left_since (store a) (store b) (OpensAsEvent opens k.0 k.1)) olds news (map without_room zones)
+without store is_honest moment left_since opens [] [] [] each = tt
+without store is_honest moment left_since opens (a ∷ olds) (b ∷ news) (z ∷ zones) each = (each.0, without store is_honest moment left_since opens olds news zones each.1)
+without store is_honest moment left_since opens _ _ _ each = absurd each
 
 -- a zone of which nothing is staged, or that is closed, is as it would be after a flush
 settled_by : (s : Setting) (l : List Record) (shown staged : List Made) (base : ℕ) (second : Option ℕ) (openings : ℕ) (altered : List Write) (closed : Bool) → (closed ≡ true) ⊎ (staged ≡ [])
@@ -163,19 +163,19 @@ zone_at (f ∷ fails) (a ∷ zones) zero z long e = (let is : a ≡ z = cc e in 
 zone_at (f ∷ fails) (a ∷ zones) (suc index) z long e = zone_at fails zones index z (omega (arith, long)) e
 
 -- the zone of the event among all
-with_more : {S B : Type 0} (store : B → S) (moment : S → ℕ) (left_since : S → ℕ → Content → Type 0) (opens : Shape → Opened → Content → Type 0) (olds news : List B) (zones : List ZoneState) (index room : ℕ)
-    → Each3 (λ a b k. LeavesOnly moment left_since (store a) (store b) (OpensAsLeft opens k)) olds news (map kept_of zones)
-    → Each3 (λ a b k. LeavesOnly moment left_since (store a) (store b) (OpensAsEvent opens k.0 k.1)) olds news (with_room index room zones)
-with_more store moment left_since opens [] [] [] index room each = tt
-with_more store moment left_since opens (a ∷ olds) (b ∷ news) (z ∷ zones) zero room each =
-    (weaker moment left_since (store a) (store b) (OpensAsLeft opens (kept_of z)) (OpensAsEvent opens (Some room) z) each.0 (λ c left. inl left), without store moment left_since opens olds news zones each.1)
-with_more store moment left_since opens (a ∷ olds) (b ∷ news) (z ∷ zones) (suc index) room each = (each.0, with_more store moment left_since opens olds news zones index room each.1)
-with_more store moment left_since opens _ _ _ index room each = absurd each
+with_more : {S B : Type 0} (store : B → S) (is_honest : S → Type 0) (moment : S → ℕ) (left_since : S → ℕ → Content → Type 0) (opens : Shape → Opened → Content → Type 0) (olds news : List B) (zones : List ZoneState) (index room : ℕ)
+    → Each3 (λ a b k. is_honest (store a) → LeavesOnly moment left_since (store a) (store b) (OpensAsLeft opens k)) olds news (map kept_of zones)
+    → Each3 (λ a b k. is_honest (store a) → LeavesOnly moment left_since (store a) (store b) (OpensAsEvent opens k.0 k.1)) olds news (with_room index room zones)
+with_more store is_honest moment left_since opens [] [] [] index room each = tt
+with_more store is_honest moment left_since opens (a ∷ olds) (b ∷ news) (z ∷ zones) zero room each =
+    (λ honest. weaker moment left_since (store a) (store b) (OpensAsLeft opens (kept_of z)) (OpensAsEvent opens (Some room) z) (each.0 honest) (λ c left. inl left), without store is_honest moment left_since opens olds news zones each.1)
+with_more store is_honest moment left_since opens (a ∷ olds) (b ∷ news) (z ∷ zones) (suc index) room each = (each.0, with_more store is_honest moment left_since opens olds news zones index room each.1)
+with_more store is_honest moment left_since opens _ _ _ index room each = absurd each
 
 -- a step that moves no base
 moments_of : {I S : Type 0} (s : store.Ghosts S) (moved : Option (ℕ × ℕ)) (m : Machine) (olds news : List (ZoneVersions I S)) → AtAnyMoment s m olds news → AtAnyMomentOf s moved m olds news
-moments_of {I} {S} s None m olds news each = without (λ (b : ZoneVersions I S). b.store) s.moment s.left_since s.opens olds news m.zones each
-moments_of {I} {S} s (Some moved) m olds news each = with_more (λ (b : ZoneVersions I S). b.store) s.moment s.left_since s.opens olds news m.zones moved.0 moved.1 each
+moments_of {I} {S} s None m olds news each = without (λ (b : ZoneVersions I S). b.store) s.is_honest s.moment s.left_since s.opens olds news m.zones each
+moments_of {I} {S} s (Some moved) m olds news each = with_more (λ (b : ZoneVersions I S). b.store) s.is_honest s.moment s.left_since s.opens olds news m.zones moved.0 moved.1 each
 
 pub on_any : {I S : Type 0} {i : zone_index.Ghosts I} {s : store.Ghosts S} (m : Machine) (old new : Primary I S i s) (effects : Effects) (moved : Option (ℕ × ℕ)) (step : List Bool → machine.Effects → Machine → Type 0)
     → Stepped m old new effects step → SteppedOn m moved old new effects step
@@ -183,6 +183,7 @@ on_any {s = s} m old new effects moved step stepped = record {
   fails = stepped.fails;
   failed = stepped.failed;
   any_moment = moments_of s moved m old.pending.items new.pending.items stepped.any_moment;
+  honest = stepped.honest;
   next = stepped.next;
   stated = stepped.stated;
   is = stepped.is;
@@ -194,20 +195,22 @@ pub simple : {I S : Type 0} {i : zone_index.Ghosts I} {s : store.Ghosts S} (m : 
     → base_moved m event ≡ None → Stepped m old new effects (λ fails stated next. Step fails m event stated next) → SteppedBy m event old new effects
 simple m event old new effects none step = on_any m old new effects (base_moved m event) (λ fails stated next. Step fails m event stated next) step
 
-pub moved_moments : {S B : Type 0} (store : B → S) (moment : S → ℕ) (left_since : S → ℕ → Content → Type 0) (opens : Shape → Opened → Content → Type 0) (olds mids : List B) (zones : List ZoneState) (index room : ℕ) (z : ZoneState) (e new : B)
-    → Each3 (λ a b k. LeavesOnly moment left_since (store a) (store b) (OpensAsLeft opens k)) olds mids (map kept_of zones)
+pub moved_moments : {S B : Type 0} (store : B → S) (is_honest : S → Type 0) (moment : S → ℕ) (left_since : S → ℕ → Content → Type 0) (opens : Shape → Opened → Content → Type 0) (olds mids : List B) (zones : List ZoneState) (index room : ℕ) (z : ZoneState) (e new : B)
+    → Each3 (λ a b k. is_honest (store a) → LeavesOnly moment left_since (store a) (store b) (OpensAsLeft opens k)) olds mids (map kept_of zones)
+    → Each2 (λ a b. is_honest (store b) ↔ is_honest (store a)) olds mids
     → slice_get zones index ≡ Some z
-    → ((a : B) → LeavesOnly moment left_since (store a) (store (slice_index_or mids index e)) (OpensAsLeft opens (kept_of z)) → LeavesOnly moment left_since (store a) (store new) (OpensAsEvent opens (Some room) z))
-    → Each3 (λ a b k. LeavesOnly moment left_since (store a) (store b) (OpensAsEvent opens k.0 k.1)) olds (slice_set mids index new) (with_room index room zones)
-moved_moments store moment left_since opens [] [] [] index room z e new each there go = tt
-moved_moments store moment left_since opens (a ∷ olds) (b ∷ mids) (y ∷ zones) zero room z e new each there go =
+    → ((a : B) → is_honest (store (slice_index_or mids index e)) → LeavesOnly moment left_since (store a) (store (slice_index_or mids index e)) (OpensAsLeft opens (kept_of z)) → LeavesOnly moment left_since (store a) (store new) (OpensAsEvent opens (Some room) z))
+    → Each3 (λ a b k. is_honest (store a) → LeavesOnly moment left_since (store a) (store b) (OpensAsEvent opens k.0 k.1)) olds (slice_set mids index new) (with_room index room zones)
+moved_moments store is_honest moment left_since opens [] [] [] index room z e new each same there go = tt
+moved_moments store is_honest moment left_since opens (a ∷ olds) (b ∷ mids) (y ∷ zones) zero room z e new each same there go =
     let is : y ≡ z = cc there in (
-      subst (λ (x : ZoneState). LeavesOnly moment left_since (store a) (store new) (OpensAsEvent opens (Some room) x)) (sym is)
-          (go a (subst (λ (x : ZoneState). LeavesOnly moment left_since (store a) (store b) (OpensAsLeft opens (kept_of x))) is each.0)),
-      without store moment left_since opens olds mids zones each.1,
+      λ honest.
+          subst (λ (x : ZoneState). LeavesOnly moment left_since (store a) (store new) (OpensAsEvent opens (Some room) x)) (sym is)
+          (go a (same.0.1 honest) (subst (λ (x : ZoneState). LeavesOnly moment left_since (store a) (store b) (OpensAsLeft opens (kept_of x))) is (each.0 honest))),
+      without store is_honest moment left_since opens olds mids zones each.1,
     )
-moved_moments store moment left_since opens (a ∷ olds) (b ∷ mids) (y ∷ zones) (suc index) room z e new each there go = (each.0, moved_moments store moment left_since opens olds mids zones index room z e new each.1 there go)
-moved_moments store moment left_since opens _ _ _ index room z e new each there go = absurd each
+moved_moments store is_honest moment left_since opens (a ∷ olds) (b ∷ mids) (y ∷ zones) (suc index) room z e new each same there go = (each.0, moved_moments store is_honest moment left_since opens olds mids zones index room z e new each.1 same.1 there go)
+moved_moments store is_honest moment left_since opens _ _ _ index room z e new each same there go = absurd each
 
 -- one of a list
 pub got : {A : Type 0} (xs : List A) (n : ℕ) (a d : A) → slice_get xs n ≡ Some a → slice_index_or xs n d ≡ a
@@ -226,7 +229,8 @@ pub not_there : {I S : Type 0} {i : zone_index.Ghosts I} {s : store.Ghosts S} (m
 not_there {s = s} m index p effects none rest kept effects_are = record {
   fails = [];
   failed = tt;
-  any_moment = with_more (λ (b : ZoneVersions _ _). b.store) s.moment s.left_since s.opens p.pending.items p.pending.items m.zones index 0 rest;
+  any_moment = with_more (λ (b : ZoneVersions _ _). b.store) s.is_honest s.moment s.left_since s.opens p.pending.items p.pending.items m.zones index 0 rest;
+  honest = as_honest s p.pending.items;
   next = m;
   stated = nothing;
   is = inl (subst (λ (o : Option ZoneState). IsCheckpointed [] m index o nothing m) (sym none) (refl, gives_none m));

@@ -1,14 +1,16 @@
 -- Devices that are opened one after the other, and what that is for a machine that stopped.
-use Rattle.std.proofs.Common.{◌≡◌, ◌⊎◌, ◌+◌, ◌<◌, ◌≤◌, ℕ, zero, suc, inl, inr, ⊎_elim, List, [], ◌∷◌, ◌++◌, length, map, drop, refl, sym, ap, subst, ◌∙◌, arith}
-use Rattle.std.specs.Prelude.{slice_index_or}
+use Rattle.std.proofs.Common.{◌≡◌, ◌⊎◌, ◌+◌, ◌<◌, ◌≤◌, ℕ, zero, suc, inl, inr, ⊎_elim, List, [], ◌∷◌, ◌++◌, length, map, drop, None, false, refl, sym, ap, subst, ◌∙◌, arith}
+use Rattle.std.specs.Prelude.{◌↔◌, slice_index_or}
 use Rattle.dns_names.specs.Name.{Labels}
+use Rattle.dns_records.specs.Record.{Record}
 use Rattle.dns_zone.specs.Zone.{Zone}
+use Rattle.dns_wire.specs.Message.{Message, header_of}
 use Rattle.dns_sectors.specs.Device.{Content, LeavesOnly}
 use Rattle.dns_sectors.specs.Crash.{Write}
 use Rattle.dns_sectors.specs.declared.device.Sectors.{Ghosts}
 use Rattle.dns_sectors.proofs.Moments.{weaker, started}
 use Rattle.dns_layout.specs.Sector.{sector_at}
-use Rattle.dns_store.specs.Versions.{Shape, Kept, opened_again}
+use Rattle.dns_store.specs.Versions.{Shape, Kept, Opened, Versions, opened_again}
 use Rattle.dns_store.specs.Opens.{opens, fresh}
 use Rattle.dns_store.specs.Opening.{IsNotReopened, MayOpen, NamesInUse, OpensAsPossible, StopsPossible, keeps}
 use Rattle.dns_store.specs.declared.kept_store.KeptStore.{KeptStore}
@@ -18,12 +20,13 @@ use Rattle.dns_versions.specs.declared.zone_versions.ZoneVersions.{ZoneVersions}
 use Rattle.dns_versions.specs.Each.{Each2}
 use Rattle.dns_versions.specs.Held.{HasVersions}
 use Rattle.dns_primary.specs.declared.primary.ZoneSpec.{ZoneSpec}
-use Rattle.dns_primary.specs.Machine.{Setting, ZoneState, Machine, kept_of, versions_of}
+use Rattle.dns_primary.specs.Machine.{Made, Setting, ZoneState, Machine, kept_of, versions_of}
 use Rattle.dns_primary.specs.Step.{Event}
 use Rattle.dns_primary.specs.Stop.{IsSetAnew, IsMaking, IsRecovered, AreRecovered, OpensAsRecovered, reopened_as}
 use Rattle.dns_primary.specs.Keeps.{HaveVersions, IsSet}
+use Rattle.dns_primary.proofs.Places.{itself2}
 use Rattle.dns_primary.proofs.Begun.{setting_of, allows_is}
-use Rattle.dns_primary.specs.Open.{shape_of, device_of_pending, StaysPossible, IsOpened, IsNotOpened, AreOpened, AreHandedBack, AreRefused, IsRecoverableAs, AreRecoverable, AreRecoverableAs, LeaveRecovered, NamesOneOf, IsRecoveryStopped}
+use Rattle.dns_primary.specs.Open.{shape_of, device_of_pending, AnySettings, AreAsHonest, AreHonestOrNot, AreSetIfHonest, AreHonest, AreReopened, IsHonestAt, StaysPossible, IsOpened, IsNotOpened, AreOpened, AreHandedBack, AreRefused, IsRecoverableAs, AreRecoverable, AreRecoverableAs, LeaveRecovered, NamesOneOf, IsRecoveryStopped}
 
 pub first_dropped : {A : Type 0} (xs : List A) (i : ℕ) (d : A) → slice_index_or (drop i xs) 0 d ≡ slice_index_or xs i d
 first_dropped xs zero d = refl
@@ -86,14 +89,39 @@ module _ {D I : Type 0} {g : Ghosts D} where
       (each.0.leaves, each.0.intact, handed_back error i apexes settings devices zones pending a s d e each.1 (omega (arith, l)) (omega (arith, m)) (omega (arith, n)) is)
   handed_back error _ _ _ _ _ _ a s d e each l m n is = absurd each
 
+-- each device is as honest as it was
+module _ {D I : Type 0} {g : Ghosts D} where
+  pub opened_honest : (n : ℕ) (apexes : List Labels) (settings : List ZoneSpec) (devices : List D) (zones : List Zone) (pending : List (ZoneVersions I (KeptStore D I g))) → length devices ≡ n → AreOpened n apexes settings devices zones pending
+      → AreAsHonest g devices (map (λ (b : ZoneVersions I (KeptStore D I g)). device_of_pending b) pending)
+  opened_honest zero apexes settings [] [] [] many each = tt
+  opened_honest zero apexes settings (d ∷ devices) [] [] many each = absurd (omega (arith, many))
+  opened_honest zero apexes settings devices [] (c ∷ pending) many each = absurd each
+  opened_honest zero apexes settings devices (w ∷ zones) pending many each = absurd each
+  opened_honest (suc n) (a ∷ apexes) (s ∷ settings) (d ∷ devices) (w ∷ zones) (b ∷ pending) many each =
+      (each.0.leaves.honest, opened_honest n apexes settings devices zones pending (omega (arith, many)) each.1)
+  opened_honest _ _ _ _ _ _ many each = absurd each
+
+module _ {D : Type 0} (g : Ghosts D) where
+  pub same_honest : (devices : List D) → AreAsHonest g devices devices
+  same_honest devices = itself2 (λ (d e : D). g.is_honest e ↔ g.is_honest d) devices (λ d. (λ h. h, λ h. h))
+
+  back_honest : (error : OpenError) (n : ℕ) (apexes : List Labels) (settings : List ZoneSpec) (devices back : List D) → AreHandedBack g error n apexes settings devices back → AreAsHonest g devices back
+  back_honest error zero (a ∷ apexes) (s ∷ settings) (d ∷ devices) (e ∷ back) h = (h.0.leaves.honest, subst (λ (l : List D). AreAsHonest g devices l) (sym h.1) (same_honest devices))
+  back_honest error (suc n) (a ∷ apexes) (s ∷ settings) (d ∷ devices) (e ∷ back) h = (h.0.honest, back_honest error n apexes settings devices back h.2)
+  back_honest error _ _ _ _ _ h = absurd h
+
+  pub refused_honest : (error : OpenError) (n : ℕ) (apexes : List Labels) (settings : List ZoneSpec) (devices back : List D) → AreRefused g error n apexes settings devices back → AreAsHonest g devices back
+  refused_honest error n apexes settings devices back (inl h) = back_honest error n apexes settings devices back h
+  refused_honest error n apexes settings devices back (inr (memory, same)) = subst (λ (l : List D). AreAsHonest g devices l) (sym same) (same_honest devices)
+
 -- what a zone is that may be recovered, and its device
 module _ {D : Type 0} {g : Ghosts D} (tries : ℕ) (making : ℕ → Type 0) (z : ZoneState) (a : Labels) (s : ZoneSpec) (d : D) {set_as : ZoneSpec → ZoneState → Type 0} (is : IsRecoverableAs set_as g tries making z a s d) where
   shape_is : (least most : ℕ) (w : ZoneState) → IsRecovered least most making z w → w.setting.shape ≡ shape_of a s
   shape_is least most w r = ap (λ (x : Setting). x.shape) r.setting ∙ is.shape
 
-  pub may_open : MayOpen g (shape_of a s) d
-  may_open c left =
-      let there = is.leaves c left in
+  pub may_open : g.is_honest d → MayOpen g (shape_of a s) d
+  may_open honest c left =
+      let there = is.leaves honest c left in
       (reopened_as there.0, subst (λ (x : Shape). opens x (reopened_as there.0) c) (shape_is 0 tries there.0 there.1) there.2)
 
   -- the zone, opened once more
@@ -136,9 +164,9 @@ module _ {D : Type 0} {g : Ghosts D} (tries : ℕ) (making : ℕ → Type 0) (z 
     at_most = (let most = r.at_most in omega (arith, most));
   }
 
-  possible_recovered : (c : Content) → OpensAsPossible g (shape_of a s) d c → OpensAsRecovered opens (suc tries) making z c
-  possible_recovered c possible =
-      let there = is.leaves possible.0 possible.1 in
+  possible_recovered : g.is_honest d → (c : Content) → OpensAsPossible g (shape_of a s) d c → OpensAsRecovered opens (suc tries) making z c
+  possible_recovered honest c possible =
+      let there = is.leaves honest possible.0 possible.1 in
       let w = there.0 in
       let same = shape_is 0 tries w there.1 in
       elim (possible.2 (reopened_as w) (subst (λ (x : Shape). opens x (reopened_as w) possible.0) same there.2)) [
@@ -146,8 +174,8 @@ module _ {D : Type 0} {g : Ghosts D} (tries : ℕ) (making : ℕ → Type 0) (z 
         | inr now ↦ (again w, once_more 0 (omega arith) w there.1, subst (λ (x : Shape). opens x (reopened_as (again w)) c) (sym same) now)
       ]
 
-  pub leaves_recovered : (e : D) → StaysPossible g a s d e → LeavesOnly g.moment g.left_since d e (OpensAsRecovered opens (suc tries) making z)
-  leaves_recovered e stays = weaker g.moment g.left_since d e (OpensAsPossible g (shape_of a s) d) (OpensAsRecovered opens (suc tries) making z) (stays.any_moment is.honest is.range) possible_recovered
+  pub leaves_recovered : g.is_honest d → (e : D) → StaysPossible g a s d e → LeavesOnly g.moment g.left_since d e (OpensAsRecovered opens (suc tries) making z)
+  leaves_recovered honest e stays = weaker g.moment g.left_since d e (OpensAsPossible g (shape_of a s) d) (OpensAsRecovered opens (suc tries) making z) (stays.any_moment honest is.range) (possible_recovered honest)
 
   -- one try more
   pub tried : IsRecoverableAs set_as g (suc tries) making z a s d
@@ -155,26 +183,24 @@ module _ {D : Type 0} {g : Ghosts D} (tries : ℕ) (making : ℕ → Type 0) (z 
     shape = is.shape;
     set = is.set;
     range = is.range;
-    honest = is.honest;
-    leaves = λ c left. (let there = is.leaves c left in (there.0, at_most_more there.0 there.1, there.2));
+    leaves = λ honest c left. (let there = is.leaves honest c left in (there.0, at_most_more there.0 there.1, there.2));
   }
 
   module _ (counts_now : (device : D) (t : ℕ) (c : Content) → g.is_honest device → t ≤ g.moment device → g.may_leave device c → g.left_since device t c) where
     pub stays_recoverable : (e : D) → StaysPossible g a s d e → IsRecoverableAs set_as g (suc tries) making z a s e
-    stays_recoverable e stays =
-        let run = leaves_recovered e stays in
-        record {
-          shape = is.shape;
-          set = is.set;
-          range = is.range;
-          honest = stays.honest is.honest;
-          leaves = λ c left. run.each c (counts_now e (g.moment d) c (stays.honest is.honest) run.later left);
-        }
+    stays_recoverable e stays = record {
+      shape = is.shape;
+      set = is.set;
+      range = is.range;
+      leaves = λ honest c left.
+          (let run = leaves_recovered (stays.honest.0 honest) e stays in
+          run.each c (counts_now e (g.moment d) c honest run.later left));
+    }
 
   -- why it was not opened, by how often the machine says that it was, or which sectors of it were altered
-  pub stopped_by : (error : OpenError) → StopsPossible g (shape_of a s) d error → IsNotReopened (z.openings + tries) error ⊎ NamesOneOf z.altered error
-  stopped_by error stops =
-      let there = is.leaves stops.0 stops.1 in
+  pub stopped_by : g.is_honest d → (error : OpenError) → StopsPossible g (shape_of a s) d error → IsNotReopened (z.openings + tries) error ⊎ NamesOneOf z.altered error
+  stopped_by honest error stops =
+      let there = is.leaves honest stops.0 stops.1 in
       let w = there.0 in
       let most = (there.1).at_most in
       ⊎_elim (λ again. inl (by w.openings most again)) (λ named. inr (subst (λ (ws : List Write). NamesOneOf ws error) (there.1).altered (names w error named)))
@@ -210,10 +236,10 @@ module _ {D : Type 0} {g : Ghosts D} (tries : ℕ) (making : ℕ → Type 0) (z 
     pub recovered : IsRecovered 1 (suc tries) making z state
     pub held : HasVersions (λ x k. keeps x k) zone b (kept_of state)
 
-  pub reopened : {I : Type 0} (zone : Zone) (b : ZoneVersions I (KeptStore D I g)) → IsOpened a s d zone b → IsReopened zone b
-  reopened {I} zone b opened =
-      let takes = opened.takes is.honest is.range may_open in
-      let there = is.leaves takes.0 takes.1 in
+  pub reopened : g.is_honest d → {I : Type 0} (zone : Zone) (b : ZoneVersions I (KeptStore D I g)) → IsOpened a s d zone b → IsReopened zone b
+  reopened honest {I} zone b opened =
+      let takes = opened.takes honest is.range (may_open honest) in
+      let there = is.leaves honest takes.0 takes.1 in
       let held = takes.2 (reopened_as there.0) (subst (λ (x : Shape). opens x (reopened_as there.0) takes.0) (shape_is 0 tries there.0 there.1) there.2) in
       record {
         state = again there.0;
@@ -258,30 +284,54 @@ module _ {D : Type 0} (g : Ghosts D) (m : Machine) (event : Event) (tries : ℕ)
 
 -- all zones of a machine that stopped within an event
 module _ {D I : Type 0} {g : Ghosts D} (m : Machine) (event : Event) (tries : ℕ) where
-  pub record AreReopened (index : ℕ) (olds : List ZoneState) (settings : List ZoneSpec) (devices : List D) (zones : List Zone) (pending : List (ZoneVersions I (KeptStore D I g))) : Type 0 where
+  pub record AreAllReopened (index : ℕ) (olds : List ZoneState) (zones : List Zone) (pending : List (ZoneVersions I (KeptStore D I g))) : Type 0 where
     pub states : List ZoneState
     pub recovered : AreRecovered 1 (suc tries) m event index olds states
     pub held : HaveVersions (λ (x : KeptStore D I g) k. keeps x k) zones pending states
-    pub left : LeaveRecovered g (suc tries) m event index olds devices (map (λ (b : ZoneVersions I (KeptStore D I g)). device_of_pending b) pending)
 
-  pub all_reopened : (index : ℕ) (olds : List ZoneState) (apexes : List Labels) (settings : List ZoneSpec) (devices : List D) (zones : List Zone) (pending : List (ZoneVersions I (KeptStore D I g)))
-      → (set_as : ZoneSpec → ZoneState → Type 0) → AreRecoverableAs set_as g tries m event index olds apexes settings devices → AreOpened (length settings) apexes settings devices zones pending → AreReopened index olds settings devices zones pending
-  all_reopened index [] [] [] [] [] [] set_as is each = record { states = []; recovered = tt; held = tt; left = tt }
-  all_reopened index [] [] [] [] [] (b ∷ pending) set_as is each = absurd each
-  all_reopened index [] [] [] [] (y ∷ zones) pending set_as is each = absurd each
-  all_reopened index (z ∷ olds) (a ∷ apexes) (s ∷ settings) (d ∷ devices) [] pending set_as is each = absurd each
-  all_reopened index (z ∷ olds) (a ∷ apexes) (s ∷ settings) (d ∷ devices) (y ∷ zones) [] set_as is each = absurd each
-  all_reopened index (z ∷ olds) (a ∷ apexes) (s ∷ settings) (d ∷ devices) (y ∷ zones) (b ∷ pending) set_as is each =
-      let making = IsMaking m event index z in
-      let one = reopened tries making z a s d is.0 y b each.0 in
-      let rest = all_reopened (suc index) olds apexes settings devices zones pending set_as is.1 each.1 in
+  -- each zone whose device is honest
+  pub each_reopened : (index : ℕ) (olds : List ZoneState) (apexes : List Labels) (settings : List ZoneSpec) (devices : List D) (zones : List Zone) (pending : List (ZoneVersions I (KeptStore D I g)))
+      → (set_as : ZoneSpec → ZoneState → Type 0) → AreRecoverableAs set_as g tries m event index olds apexes settings devices → AreOpened (length settings) apexes settings devices zones pending → AreReopened g tries m event index olds devices zones pending
+  each_reopened index [] [] [] [] [] [] set_as is each = tt
+  each_reopened index [] [] [] [] [] (b ∷ pending) set_as is each = absurd each
+  each_reopened index [] [] [] [] (y ∷ zones) pending set_as is each = absurd each
+  each_reopened index (z ∷ olds) (a ∷ apexes) (s ∷ settings) (d ∷ devices) [] pending set_as is each = absurd each
+  each_reopened index (z ∷ olds) (a ∷ apexes) (s ∷ settings) (d ∷ devices) (y ∷ zones) [] set_as is each = absurd each
+  each_reopened index (z ∷ olds) (a ∷ apexes) (s ∷ settings) (d ∷ devices) (y ∷ zones) (b ∷ pending) set_as is each = (
+    λ honest.
+        (let one = reopened tries (IsMaking m event index z) z a s d is.0 honest y b each.0 in
+        (one.state, one.recovered, one.held)),
+    each_reopened (suc index) olds apexes settings devices zones pending set_as is.1 each.1,
+  )
+  each_reopened index _ _ _ _ zones pending set_as is each = absurd is
+
+  -- all of them
+  pub all_reopened : (index : ℕ) (olds : List ZoneState) (devices : List D) (zones : List Zone) (pending : List (ZoneVersions I (KeptStore D I g)))
+      → AreReopened g tries m event index olds devices zones pending → AreHonest g devices → AreAllReopened index olds zones pending
+  all_reopened index [] [] [] [] each honest = record { states = []; recovered = tt; held = tt }
+  all_reopened index (z ∷ olds) (d ∷ devices) (y ∷ zones) (b ∷ pending) each honest =
+      let one = each.0 honest.0 in
+      let rest = all_reopened (suc index) olds devices zones pending each.1 honest.1 in
       record {
-        states = one.state ∷ rest.states;
-        recovered = (one.recovered, rest.recovered);
-        held = (one.held, rest.held);
-        left = (leaves_recovered tries making z a s d is.0 (device_of_pending b) each.0.leaves, rest.left);
+        states = one.0 ∷ rest.states;
+        recovered = (one.1, rest.recovered);
+        held = (one.2, rest.held);
       }
-  all_reopened index _ _ _ _ zones pending set_as is each = absurd is
+  all_reopened index _ _ _ _ each honest = absurd each
+
+  -- what a crash leaves of each honest device
+  pub all_left : (index : ℕ) (olds : List ZoneState) (apexes : List Labels) (settings : List ZoneSpec) (devices : List D) (zones : List Zone) (pending : List (ZoneVersions I (KeptStore D I g)))
+      → (set_as : ZoneSpec → ZoneState → Type 0) → AreRecoverableAs set_as g tries m event index olds apexes settings devices → AreOpened (length settings) apexes settings devices zones pending → LeaveRecovered g (suc tries) m event index olds devices (map (λ (b : ZoneVersions I (KeptStore D I g)). device_of_pending b) pending)
+  all_left index [] [] [] [] [] [] set_as is each = tt
+  all_left index [] [] [] [] [] (b ∷ pending) set_as is each = absurd each
+  all_left index [] [] [] [] (y ∷ zones) pending set_as is each = absurd each
+  all_left index (z ∷ olds) (a ∷ apexes) (s ∷ settings) (d ∷ devices) [] pending set_as is each = absurd each
+  all_left index (z ∷ olds) (a ∷ apexes) (s ∷ settings) (d ∷ devices) (y ∷ zones) [] set_as is each = absurd each
+  all_left index (z ∷ olds) (a ∷ apexes) (s ∷ settings) (d ∷ devices) (y ∷ zones) (b ∷ pending) set_as is each = (
+    λ honest. leaves_recovered tries (IsMaking m event index z) z a s d is.0 honest (device_of_pending b) each.0.leaves,
+    all_left (suc index) olds apexes settings devices zones pending set_as is.1 each.1,
+  )
+  all_left index _ _ _ _ zones pending set_as is each = absurd is
 
   -- ... or with others
   pub record AreSetUp (settings : List ZoneSpec) (states : List ZoneState) (zones : List Zone) (pending : List (ZoneVersions I (KeptStore D I g))) : Type 0 where
@@ -311,9 +361,93 @@ module _ {D I : Type 0} {g : Ghosts D} (m : Machine) (event : Event) (tries : �
   all_set_up (s ∷ settings) (w ∷ states) (y ∷ zones) [] many h = absurd h
 
   pub set_up_anew : (index : ℕ) (olds : List ZoneState) (apexes : List Labels) (settings : List ZoneSpec) (devices : List D) (zones : List Zone) (pending : List (ZoneVersions I (KeptStore D I g)))
-      → (set_as : ZoneSpec → ZoneState → Type 0) → AreRecoverableAs set_as g tries m event index olds apexes settings devices → (all : AreReopened index olds settings devices zones pending) → AreSetUp settings all.states zones pending
+      → (set_as : ZoneSpec → ZoneState → Type 0) → AreRecoverableAs set_as g tries m event index olds apexes settings devices → (all : AreAllReopened index olds zones pending) → AreSetUp settings all.states zones pending
   set_up_anew index olds apexes settings devices zones pending set_as is all =
       all_set_up settings all.states zones pending (many_recovered g m event tries index olds apexes settings devices all.states set_as is all.recovered) all.held
+
+-- ---- whichever devices are honest
+-- versions that came by some updates
+abbrev some_update : Message
+some_update = record { header = header_of []; questions = []; answers = []; authorities = []; additionals = [] }
+
+abbrev made_so : Versions → List Made
+made_so = map (λ (v : List Record). record { update = some_update; records = v })
+
+versions_so : (vs : Versions) → versions_of (made_so vs) ≡ vs
+versions_so [] = refl
+versions_so (v ∷ vs) = ap (λ (ws : Versions). v ∷ ws) (versions_so vs)
+
+-- a zone of these versions
+abbrev zone_so : Shape → ZoneSpec → Opened → ZoneState
+zone_so shape s o = record {
+  setting = setting_of shape s;
+  loaded = o.loaded;
+  shown = made_so o.versions;
+  staged = [];
+  base = o.base;
+  second = None;
+  openings = o.openings;
+  altered = o.altered;
+  closed = false;
+}
+
+kept_so : (shape : Shape) (s : ZoneSpec) (o : Opened) → kept_of (zone_so shape s o) ≡ fresh shape o
+kept_so shape s o = ap (λ (vs : Versions). fresh shape (record o { versions = vs })) (versions_so o.versions)
+
+zone_set_so : (shape : Shape) (s : ZoneSpec) (o : Opened) → IsSet s (zone_so shape s o)
+zone_set_so shape s o = record { keep = refl; update = allows_is s.update.items; transfer = allows_is s.transfer.items }
+
+module _ {D I : Type 0} {g : Ghosts D} (m : Machine) (event : Event) (tries : ℕ) where
+  -- one zone, and all of them
+  pub record IsHeldAnyway (index : ℕ) (z : ZoneState) (s : ZoneSpec) (d : D) (zone : Zone) (b : ZoneVersions I (KeptStore D I g)) : Type 0 where
+    pub state : ZoneState
+    pub recovered : g.is_honest d → (w : ZoneState) × IsRecovered 1 (suc tries) (IsMaking m event index z) z w × IsSetAnew w state
+    pub held : HasVersions (λ (x : KeptStore D I g) k. keeps x k) zone b (kept_of state)
+    pub set : IsSet s state
+
+  held_anyway : (index : ℕ) (z : ZoneState) (a : Labels) (s : ZoneSpec) (d : D) → IsRecoverableAs AnySettings g tries (IsMaking m event index z) z a s d → g.is_honest d ⊎ (g.is_honest d → ⊥)
+      → (zone : Zone) (b : ZoneVersions I (KeptStore D I g)) → IsOpened a s d zone b → IsHeldAnyway index z s d zone b
+  held_anyway index z a s d is (inl honest) zone b opened =
+      let one = reopened tries (IsMaking m event index z) z a s d is honest zone b opened in
+      record {
+        state = set_up s one.state;
+        recovered = λ h. (one.state, one.recovered, record { shape = refl; rest = refl });
+        held = one.held;
+        set = set_up_so s one.state;
+      }
+  held_anyway index z a s d is (inr not) zone b opened =
+      let there = opened.memory not in
+      let shape = shape_of a s in
+      record {
+        state = zone_so shape s there.0;
+        recovered = λ honest. absurd (not honest);
+        held = subst (λ (k : Kept). HasVersions (λ (x : KeptStore D I g) (k : Kept). keeps x k) zone b k) (sym (kept_so shape s there.0)) there.1;
+        set = zone_set_so shape s there.0;
+      }
+
+  pub record AreHeldAnyway (index : ℕ) (olds : List ZoneState) (settings : List ZoneSpec) (devices : List D) (zones : List Zone) (pending : List (ZoneVersions I (KeptStore D I g))) : Type 0 where
+    pub states : List ZoneState
+    pub recovered : AreSetIfHonest g tries m event index olds devices states
+    pub held : HaveVersions (λ (x : KeptStore D I g) k. keeps x k) zones pending states
+    pub set : Each2 IsSet settings states
+
+  pub all_held_anyway : (index : ℕ) (olds : List ZoneState) (apexes : List Labels) (settings : List ZoneSpec) (devices : List D) (zones : List Zone) (pending : List (ZoneVersions I (KeptStore D I g)))
+      → AreRecoverableAs AnySettings g tries m event index olds apexes settings devices → AreOpened (length settings) apexes settings devices zones pending → AreHonestOrNot g devices → AreHeldAnyway index olds settings devices zones pending
+  all_held_anyway index [] [] [] [] [] [] is each known = record { states = []; recovered = tt; held = tt; set = tt }
+  all_held_anyway index [] [] [] [] [] (b ∷ pending) is each known = absurd each
+  all_held_anyway index [] [] [] [] (y ∷ zones) pending is each known = absurd each
+  all_held_anyway index (z ∷ olds) (a ∷ apexes) (s ∷ settings) (d ∷ devices) [] pending is each known = absurd each
+  all_held_anyway index (z ∷ olds) (a ∷ apexes) (s ∷ settings) (d ∷ devices) (y ∷ zones) [] is each known = absurd each
+  all_held_anyway index (z ∷ olds) (a ∷ apexes) (s ∷ settings) (d ∷ devices) (y ∷ zones) (b ∷ pending) is each known =
+      let one = held_anyway index z a s d is.0 known.0 y b each.0 in
+      let rest = all_held_anyway (suc index) olds apexes settings devices zones pending is.1 each.1 known.1 in
+      record {
+        states = one.state ∷ rest.states;
+        recovered = (one.recovered, rest.recovered);
+        held = (one.held, rest.held);
+        set = (one.set, rest.set);
+      }
+  all_held_anyway index _ _ _ _ zones pending is each known = absurd is
 
 -- the devices that are handed back
 module _ {D : Type 0} (set_as : ZoneSpec → ZoneState → Type 0) (g : Ghosts D) (m : Machine) (event : Event) (tries : ℕ)
@@ -322,14 +456,14 @@ module _ {D : Type 0} (set_as : ZoneSpec → ZoneState → Type 0) (g : Ghosts D
   where
     stays_itself : (a : Labels) (s : ZoneSpec) (d : D) → StaysPossible g a s d d
     stays_itself a s d = record {
-      honest = λ h. h;
+      honest = (λ h. h, λ h. h);
       any_moment = λ honest range. started g.moment g.left_since d (OpensAsPossible g (shape_of a s) d) (λ c left. (c, only_now d c honest left, λ o is. inl is));
     }
 
     same_left : (index : ℕ) (olds : List ZoneState) (apexes : List Labels) (settings : List ZoneSpec) (devices : List D) → AreRecoverableAs set_as g tries m event index olds apexes settings devices → LeaveRecovered g (suc tries) m event index olds devices devices
     same_left index [] [] [] [] is = tt
     same_left index (z ∷ olds) (a ∷ apexes) (s ∷ settings) (d ∷ devices) is =
-        (leaves_recovered tries (IsMaking m event index z) z a s d is.0 d (stays_itself a s d), same_left (suc index) olds apexes settings devices is.1)
+        (λ honest. leaves_recovered tries (IsMaking m event index z) z a s d is.0 honest d (stays_itself a s d), same_left (suc index) olds apexes settings devices is.1)
     same_left index _ _ _ _ is = absurd is
 
     all_tried : (index : ℕ) (olds : List ZoneState) (apexes : List Labels) (settings : List ZoneSpec) (devices : List D) → AreRecoverableAs set_as g tries m event index olds apexes settings devices → AreRecoverableAs set_as g (suc tries) m event index olds apexes settings devices
@@ -340,7 +474,7 @@ module _ {D : Type 0} (set_as : ZoneSpec → ZoneState → Type 0) (g : Ghosts D
 
     pub record AreHeld (error : OpenError) (n index : ℕ) (olds : List ZoneState) (apexes : List Labels) (settings : List ZoneSpec) (devices back : List D) : Type 0 where
       pub recoverable : AreRecoverableAs set_as g (suc tries) m event index olds apexes settings back
-      pub stopped : IsRecoveryStopped tries error n olds
+      pub stopped : IsHonestAt g n devices → IsRecoveryStopped tries error n olds
       pub left : LeaveRecovered g (suc tries) m event index olds devices back
 
     all_back : (error : OpenError) (n index : ℕ) (olds : List ZoneState) (apexes : List Labels) (settings : List ZoneSpec) (devices back : List D)
@@ -352,8 +486,8 @@ module _ {D : Type 0} (set_as : ZoneSpec → ZoneState → Type 0) (g : Ghosts D
             stays_recoverable tries making z a s d is.0 counts_now e h.0.leaves,
             subst (λ (l : List D). AreRecoverableAs set_as g (suc tries) m event (suc index) olds apexes settings l) (sym h.1) (all_tried (suc index) olds apexes settings devices is.1),
           );
-          stopped = stopped_by tries making z a s d is.0 error (h.0.stopped is.0.honest is.0.range (may_open tries making z a s d is.0));
-          left = (leaves_recovered tries making z a s d is.0 e h.0.leaves, subst (λ (l : List D). LeaveRecovered g (suc tries) m event (suc index) olds devices l) (sym h.1) (same_left (suc index) olds apexes settings devices is.1));
+          stopped = λ honest. stopped_by tries making z a s d is.0 honest error (h.0.stopped honest is.0.range (may_open tries making z a s d is.0 honest));
+          left = (λ honest. leaves_recovered tries making z a s d is.0 honest e h.0.leaves, subst (λ (l : List D). LeaveRecovered g (suc tries) m event (suc index) olds devices l) (sym h.1) (same_left (suc index) olds apexes settings devices is.1));
         }
     all_back error (suc n) index (z ∷ olds) (a ∷ apexes) (s ∷ settings) (d ∷ devices) (e ∷ back) is h =
         let making = IsMaking m event index z in
@@ -361,7 +495,7 @@ module _ {D : Type 0} (set_as : ZoneSpec → ZoneState → Type 0) (g : Ghosts D
         record {
           recoverable = (stays_recoverable tries making z a s d is.0 counts_now e h.0, rest.recoverable);
           stopped = rest.stopped;
-          left = (leaves_recovered tries making z a s d is.0 e h.0, rest.left);
+          left = (λ honest. leaves_recovered tries making z a s d is.0 honest e h.0, rest.left);
         }
     all_back error n index _ (a ∷ apexes) (s ∷ settings) (d ∷ devices) [] is h = absurd h
     all_back error n index [] [] [] [] back is h = absurd h
@@ -377,6 +511,6 @@ module _ {D : Type 0} (set_as : ZoneSpec → ZoneState → Type 0) (g : Ghosts D
     refused_held error n olds apexes settings devices back is (inl h) = all_back error n 0 olds apexes settings devices back is h
     refused_held error n olds apexes settings devices back is (inr (memory, same)) = record {
       recoverable = subst (λ (l : List D). AreRecoverableAs set_as g (suc tries) m event 0 olds apexes settings l) (sym same) (all_tried 0 olds apexes settings devices is);
-      stopped = for_memory error n olds memory;
+      stopped = λ honest. for_memory error n olds memory;
       left = subst (λ (l : List D). LeaveRecovered g (suc tries) m event 0 olds devices l) (sym same) (same_left 0 olds apexes settings devices is);
     }

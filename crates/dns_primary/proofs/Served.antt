@@ -1,6 +1,6 @@
 -- What is done with requests, as steps.
 use Rattle.std.proofs.Common.{◌≡◌, ◌⊎◌, inl, inr, ⊎_elim, ℕ, Bool, true, false, not, List, [], ◌∷◌, ◌++◌, length, map, Option, Some, None, Result, Ok, Err, refl, sym, ap, subst, ◌∙◌, append-nil, arith}
-use Rattle.std.specs.Prelude.{◌==◌, ◌&&◌, ◌||◌, nat_lt, is_some, IfOk, IfErr, if◌then◌else◌}
+use Rattle.std.specs.Prelude.{◌↔◌, ◌==◌, ◌&&◌, ◌||◌, nat_lt, is_some, IfOk, IfErr, if◌then◌else◌}
 use Rattle.dns_wire.specs.Message.{Header, Question, Message, header_of}
 use Rattle.dns_wire.specs.Reading.{message_of}
 use Rattle.dns_wire.specs.Text.{text}
@@ -16,7 +16,7 @@ use Rattle.dns_store.specs.Versions.{Kept, OpensAsLeft}
 use Rattle.dns_versions.specs.declared.zone_versions.ZoneVersions.{ZoneVersions}
 use Rattle.dns_sectors.specs.Device.{Content, LeavesOnly}
 use Rattle.dns_sectors.proofs.Moments.{started}
-use Rattle.dns_versions.proofs.Lists.{diag}
+use Rattle.dns_versions.proofs.Lists.{diag, diag2}
 use Rattle.dns_versions.specs.Each.{Each2, Each3}
 use Rattle.dns_versions.specs.Flush.{FailedWhere, IsCounted}
 use Rattle.dns_versions.specs.Held.{HasVersions, shown_zone}
@@ -34,7 +34,7 @@ use Rattle.dns_primary.specs.Step as machine
 use Rattle.dns_primary.specs.Step.{AreFailures, GivesEffects, IsUpdateBegun, IsRequestHandled, failure, is_asking, is_update, request_lacks}
 use Rattle.dns_primary.specs.Keeps.{HaveVersions, IsKept, AreEffects}
 use Rattle.dns_primary.specs.Queue.{IsAnswered, IsUntouched}
-use Rattle.dns_primary.specs.Steps.{AtAnyMoment, Stepped, nothing, one_reply, answered_with, IsBegunOrLacks, LacksUpdate, IsUpdatedOrLacks, LacksRequest, IsServedOrLacks, LacksAlone, IsTransferredOrLacks}
+use Rattle.dns_primary.specs.Steps.{AtAnyMoment, LeavesIfHonest, StayHonest, Stepped, nothing, one_reply, answered_with, IsBegunOrLacks, LacksUpdate, IsUpdatedOrLacks, LacksRequest, IsServedOrLacks, LacksAlone, IsTransferredOrLacks}
 use Rattle.dns_primary.proofs.Judged.{tested, untested}
 
 -- the zones are those that the machine shows
@@ -44,38 +44,53 @@ are_shown keeps (z ∷ zones) (b ∷ pending) (s ∷ states) each = λ i. each.0
 are_shown keeps _ _ _ each = absurd each
 
 -- where no device is touched the failures stay
-pub failed_still : {S B : Type 0} (store : B → S) (failed : S → ℕ) (moment : S → ℕ) (left_since : S → ℕ → List (List ℕ) → Type 0) (fails : List Bool) (olds mids news : List B)
-    → FailedWhere (λ b. failed (store b)) fails olds mids → Each2 (λ a b. IsUntouched moment left_since failed (store a) (store b)) mids news → FailedWhere (λ b. failed (store b)) fails olds news
-failed_still store failed moment left_since [] olds mids news h same = tt
-failed_still store failed moment left_since (f ∷ fails) (a ∷ olds) (b ∷ mids) (c ∷ news) h same =
-    (subst (λ n. IsCounted f (failed (store a)) n) (sym same.0.quiet) h.0, failed_still store failed moment left_since fails olds mids news h.1 same.1)
-failed_still store failed moment left_since (f ∷ fails) [] mids news h same = absurd h
-failed_still store failed moment left_since (f ∷ fails) (a ∷ olds) [] news h same = absurd h
-failed_still store failed moment left_since (f ∷ fails) (a ∷ olds) (b ∷ mids) [] h same = absurd same
+pub failed_still : {S B : Type 0} (store : B → S) (failed : S → ℕ) (moment : S → ℕ) (left_since : S → ℕ → List (List ℕ) → Type 0) (is_honest : S → Type 0) (fails : List Bool) (olds mids news : List B)
+    → FailedWhere (λ b. failed (store b)) fails olds mids → Each2 (λ a b. IsUntouched moment left_since failed is_honest (store a) (store b)) mids news → FailedWhere (λ b. failed (store b)) fails olds news
+failed_still store failed moment left_since is_honest [] olds mids news h same = tt
+failed_still store failed moment left_since is_honest (f ∷ fails) (a ∷ olds) (b ∷ mids) (c ∷ news) h same =
+    (subst (λ n. IsCounted f (failed (store a)) n) (sym same.0.quiet) h.0, failed_still store failed moment left_since is_honest fails olds mids news h.1 same.1)
+failed_still store failed moment left_since is_honest (f ∷ fails) [] mids news h same = absurd h
+failed_still store failed moment left_since is_honest (f ∷ fails) (a ∷ olds) [] news h same = absurd h
+failed_still store failed moment left_since is_honest (f ∷ fails) (a ∷ olds) (b ∷ mids) [] h same = absurd same
 
 -- no call was made, or none more
 pub rests : {I S : Type 0} (s : store.Ghosts S) (zones : List Zone) (pending : List (ZoneVersions I S)) (ks : List Kept)
-    → ((x : S) (k : Kept) → s.keeps x k → (c : Content) → s.left_since x (s.moment x) c → OpensAsLeft s.opens k c) → Each3 (λ z b k. HasVersions s.keeps z b k) zones pending ks
-    → Each3 (λ a b k. LeavesOnly s.moment s.left_since a.store b.store (OpensAsLeft s.opens k)) pending pending ks
+    → ((x : S) (k : Kept) → s.keeps x k → s.is_honest x → (c : Content) → s.left_since x (s.moment x) c → OpensAsLeft s.opens k c) → Each3 (λ z b k. HasVersions s.keeps z b k) zones pending ks
+    → Each3 (λ a b k. LeavesIfHonest s a.store b.store (OpensAsLeft s.opens k)) pending pending ks
 rests {I} {S} s zones pending ks at_rest held =
-    diag (λ (z : Zone) (b : ZoneVersions I S) (k : Kept). HasVersions s.keeps z b k) (λ (a b : ZoneVersions I S) (k : Kept). LeavesOnly s.moment s.left_since a.store b.store (OpensAsLeft s.opens k)) zones pending ks held
-    (λ z b k h. started s.moment s.left_since b.store (OpensAsLeft s.opens k) (λ c left. at_rest b.store k h.kept c left))
+    diag (λ (z : Zone) (b : ZoneVersions I S) (k : Kept). HasVersions s.keeps z b k) (λ (a b : ZoneVersions I S) (k : Kept). LeavesIfHonest s a.store b.store (OpensAsLeft s.opens k)) zones pending ks held
+    (λ z b k h honest. started s.moment s.left_since b.store (OpensAsLeft s.opens k) (λ c left. at_rest b.store k h.kept honest c left))
 
-pub still_leaves : {S B K : Type 0} (store : B → S) (failed : S → ℕ) (moment : S → ℕ) (left_since : S → ℕ → Content → Type 0) (P : K → Content → Type 0) (olds mids news : List B) (ks : List K)
-    → Each3 (λ a b k. LeavesOnly moment left_since (store a) (store b) (P k)) olds mids ks → Each2 (λ a b. IsUntouched moment left_since failed (store a) (store b)) mids news
-    → Each3 (λ a b k. LeavesOnly moment left_since (store a) (store b) (P k)) olds news ks
-still_leaves store failed moment left_since P [] [] [] [] each same = tt
-still_leaves store failed moment left_since P (a ∷ olds) (b ∷ mids) (c ∷ news) (k ∷ ks) each same = (
-  record {
-    later = omega (arith, each.0.later, same.0.still.no_later);
-    each = λ x left. each.0.each x (same.0.still.same (moment (store a)) x left);
-    before = λ t x le left. each.0.before t x le (same.0.still.same t x left);
-  },
-  still_leaves store failed moment left_since P olds mids news ks each.1 same.1,
+pub as_honest : {I S : Type 0} (s : store.Ghosts S) (pending : List (ZoneVersions I S)) → StayHonest s pending pending
+as_honest {I} {S} s pending = diag2 (λ (a b : ZoneVersions I S). s.is_honest b.store ↔ s.is_honest a.store) pending (λ a. (λ h. h, λ h. h))
+
+pub still_leaves : {S B K : Type 0} (store : B → S) (failed : S → ℕ) (moment : S → ℕ) (left_since : S → ℕ → Content → Type 0) (is_honest : S → Type 0) (P : K → Content → Type 0) (olds mids news : List B) (ks : List K)
+    → Each3 (λ a b k. is_honest (store a) → LeavesOnly moment left_since (store a) (store b) (P k)) olds mids ks → Each2 (λ a b. IsUntouched moment left_since failed is_honest (store a) (store b)) mids news
+    → Each3 (λ a b k. is_honest (store a) → LeavesOnly moment left_since (store a) (store b) (P k)) olds news ks
+still_leaves store failed moment left_since is_honest P [] [] [] [] each same = tt
+still_leaves store failed moment left_since is_honest P (a ∷ olds) (b ∷ mids) (c ∷ news) (k ∷ ks) each same = (
+  λ honest.
+      (let was = each.0 honest in
+      record {
+        later = omega (arith, was.later, same.0.still.no_later);
+        each = λ x left. was.each x (same.0.still.same (moment (store a)) x left);
+        before = λ t x le left. was.before t x le (same.0.still.same t x left);
+      }),
+  still_leaves store failed moment left_since is_honest P olds mids news ks each.1 same.1,
 )
-still_leaves store failed moment left_since P [] [] (c ∷ news) [] each same = absurd same
-still_leaves store failed moment left_since P (a ∷ olds) (b ∷ mids) [] (k ∷ ks) each same = absurd same
-still_leaves store failed moment left_since P _ _ _ _ each same = absurd each
+still_leaves store failed moment left_since is_honest P [] [] (c ∷ news) [] each same = absurd same
+still_leaves store failed moment left_since is_honest P (a ∷ olds) (b ∷ mids) [] (k ∷ ks) each same = absurd same
+still_leaves store failed moment left_since is_honest P _ _ _ _ each same = absurd each
+
+pub still_honest : {S B : Type 0} (store : B → S) (failed : S → ℕ) (moment : S → ℕ) (left_since : S → ℕ → Content → Type 0) (is_honest : S → Type 0) (olds mids news : List B)
+    → Each2 (λ a b. is_honest (store b) ↔ is_honest (store a)) olds mids → Each2 (λ a b. IsUntouched moment left_since failed is_honest (store a) (store b)) mids news
+    → Each2 (λ a b. is_honest (store b) ↔ is_honest (store a)) olds news
+still_honest store failed moment left_since is_honest [] [] [] each same = tt
+still_honest store failed moment left_since is_honest (a ∷ olds) (b ∷ mids) (c ∷ news) each same =
+    ((λ h. each.0.0 (same.0.honest.0 h), λ h. same.0.honest.1 (each.0.1 h)), still_honest store failed moment left_since is_honest olds mids news each.1 same.1)
+still_honest store failed moment left_since is_honest [] [] (c ∷ news) each same = absurd same
+still_honest store failed moment left_since is_honest (a ∷ olds) (b ∷ mids) [] each same = absurd same
+still_honest store failed moment left_since is_honest _ _ news each same = absurd each
 
 -- octets that are some request get a reply
 asking_by : (short response : Bool) (x r : request.Request) → (if short || response then request.Ignored else x) ≡ r → (r ≡ request.Ignored → ⊥) → (not short && not response) ≡ true
@@ -207,7 +222,7 @@ module _ {I S : Type 0} {i : zone_index.Ghosts I} {s : store.Ghosts S} where
   -- nothing changes, and this is what goes out
   pub stays : (p : Primary I S i s) (m : Machine) (effects : Effects) (stated : machine.Effects) (step : List Bool → machine.Effects → Machine → Type 0) → AtAnyMoment s m p.pending.items p.pending.items → IsKept p m → AreEffects stated effects → step [] stated m
       → Stepped m p p effects step
-  stays p m effects stated step rest kept effects_are is = record { fails = []; failed = tt; any_moment = rest; next = m; stated = stated; is = is; effects_are = effects_are; kept = kept }
+  stays p m effects stated step rest kept effects_are is = record { fails = []; failed = tt; any_moment = rest; honest = as_honest s p.pending.items; next = m; stated = stated; is = is; effects_are = effects_are; kept = kept }
 
 -- a request is served, as what it is
 pub served_as : (old new : Machine) (peer : Peer) (to : To) (octets : List ℕ) (transport : Transport) (r : request.Request) (fails : List Bool) (stated : machine.Effects) → r ≡ request_of octets transport

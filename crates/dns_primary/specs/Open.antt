@@ -1,5 +1,7 @@
 -- How the devices of all zones are opened, and what a primary that is opened keeps.
-use Rattle.std.specs.Prelude.{◌≡◌, ◌⊎◌, ◌+◌, ℕ, zero, suc, List, [], ◌∷◌, length, map, Result, MatchResult}
+use Rattle.std.specs.Prelude.{◌≡◌, ◌⊎◌, ◌↔◌, ◌+◌, ℕ, zero, suc, List, [], ◌∷◌, length, map}
+use Rattle.std.specs.Prelude.{Result, IfOk, MatchResult}
+use Rattle.std.specs.List.{AllByRecursion}
 use Rattle.dns_names.specs.Name.{Labels}
 use Rattle.dns_zone.specs.Zone.{Zone}
 use Rattle.dns_sectors.specs.Device.{Content, LeavesOnly}
@@ -23,13 +25,15 @@ use Rattle.dns_primary.specs.declared.primary.Primary.{Primary}
 use Rattle.dns_store.specs.declared.root.OpenError.{OpenError}
 use Rattle.dns_store.specs.declared.root.OpenError.TheVariants.{Damaged, Device, OutOfMemory}
 use Rattle.dns_versions.specs.declared.zone_versions.ZoneVersions.{ZoneVersions}
+use Rattle.dns_versions.specs.Each.{Each2}
 use Rattle.dns_versions.specs.Held.{HasVersions}
 use Rattle.dns_primary.specs.declared.open.NotOpened.{NotOpened}
 use Rattle.dns_primary.specs.declared.primary.ZoneSpec.{ZoneSpec}
-use Rattle.dns_primary.specs.Machine.{ZoneState, Machine}
+use Rattle.dns_primary.specs.Machine.{ZoneState, Machine, kept_of}
 use Rattle.dns_primary.specs.Keeps.{IsKept, IsSet}
 use Rattle.dns_primary.specs.Step.{Event}
-use Rattle.dns_primary.specs.Stop.{IsConfigured, IsMaking, IsStopped, OpensAsRecovered}
+use Rattle.dns_primary.specs.Stop.{IsConfigured, IsMaking, IsRecovered, IsSetAnew, IsStopped}
+use Rattle.dns_primary.specs.Stop.{OpensAsRecovered}
 
 -- A zone's name, and the sizes of its store.
 abbrev pub shape_of : Labels → ZoneSpec → Shape
@@ -59,7 +63,7 @@ devices_of primary = map (λ b. device_of_pending b) primary.pending.items
 -- once more: a version and a base that were possible together. The device is as honest as it was.
 pub record StaysPossible {D : Type 0} (g : Ghosts D) (apex : Labels) (s : ZoneSpec)
     (old new : D) : Type 0 where
-  pub honest : g.is_honest old → g.is_honest new
+  pub honest : g.is_honest new ↔ g.is_honest old
   pub any_moment : g.is_honest old → IsInRange s.snapshot s.journal
       → LeavesOnly g.moment g.left_since old new (OpensAsPossible g (shape_of apex s) old)
 
@@ -94,7 +98,8 @@ pub record IsIntactAs {D : Type 0} (g : Ghosts D) (shape : Shape) (device : D) :
   pub not_own : OfSpoilt g shape device (λ index. ⊥)
 
 -- The device was opened as this zone. It was intact; and where some of its sectors were altered, the answer
--- is that for the device before.
+-- is that for the device before. Where it isn't honest the zone is still the newest of the versions that its
+-- store holds in memory.
 pub record IsOpened {D I : Type 0} {g : Ghosts D} (apex : Labels) (s : ZoneSpec)
     (device : D) (zone : Zone) (b : ZoneVersions I (KeptStore D I g))
     : Type 0 where
@@ -103,6 +108,8 @@ pub record IsOpened {D I : Type 0} {g : Ghosts D} (apex : Labels) (s : ZoneSpec)
   pub altered : OfAltered g (shape_of apex s) device (λ c o. AnswersAs (shape_of apex s) o b.store zone)
   pub takes : g.is_honest device → IsInRange s.snapshot s.journal → MayOpen g (shape_of apex s) device
       → TakesDevice (shape_of apex s) device zone b
+  pub memory : (g.is_honest device → ⊥)
+      → (o : Opened) × HasVersions (λ s k. keeps s k) zone b (fresh (shape_of apex s) o)
 
 -- The device was not opened, for this reason: where each crash leaves a store that opens, the device failed,
 -- memory was refused, the store was opened too often, or a sector in use was altered, and is named; else the
@@ -155,16 +162,17 @@ abbrev pub AreRefused : {D : Type 0} → Ghosts D → OpenError → ℕ → List
 AreRefused g error index apexes settings devices back =
     AreHandedBack g error index apexes settings devices back ⊎ ((error ≡ OutOfMemory) × (back ≡ devices))
 
--- Every crash leaves the zone's device so that it opens as one that this zone may be recovered as, opened at
--- most so often since. These are its name and the sizes of its store, and its other settings are so.
+-- Every crash leaves the zone's device, if that is honest, so that it opens as one that this zone may be
+-- recovered as, opened at most so often since. These are its name and the sizes of its store, and its other
+-- settings are so.
 pub record IsRecoverableAs {D : Type 0} (set_as : ZoneSpec → ZoneState → Type 0) (g : Ghosts D) (tries : ℕ)
     (making : ℕ → Type 0) (z : ZoneState) (apex : Labels) (s : ZoneSpec) (device : D)
     : Type 0 where
   pub shape : z.setting.shape ≡ shape_of apex s
   pub set : set_as s z
   pub range : IsInRange s.snapshot s.journal
-  pub honest : g.is_honest device
-  pub leaves : (c : Content) → g.may_leave device c → OpensAsRecovered opens tries making z c
+  pub leaves : g.is_honest device → (c : Content) → g.may_leave device c
+      → OpensAsRecovered opens tries making z c
 
 -- So it is with these settings, or whichever it had.
 abbrev pub IsRecoverable : {D : Type 0} → Ghosts D → ℕ → (ℕ → Type 0) → ZoneState → Labels → ZoneSpec → D
@@ -174,7 +182,7 @@ IsRecoverable = IsRecoverableAs IsSet
 abbrev pub AnySettings : ZoneSpec → ZoneState → Type 0
 AnySettings s z = Unit {0}
 
--- Each zone's device, those from this position on, where the machine stopped within the event.
+-- Each zone's device is, those from this position on, where the machine stopped within the event.
 abbrev pub AreRecoverableAs : {D : Type 0} → (ZoneSpec → ZoneState → Type 0) → Ghosts D → ℕ → Machine → Event
     → ℕ → List ZoneState → List Labels → List ZoneSpec → List D → Type 0
 AreRecoverableAs set_as g tries m event index [] [] [] [] = Unit {0}
@@ -204,13 +212,14 @@ abbrev pub AreDevicesAnew : {D : Type 0} → Ghosts D → ℕ → Machine → Ev
 AreDevicesAnew g tries m event apexes settings devices =
     AreRecoverableAnew g tries m event 0 m.zones apexes settings devices
 
--- A crash at any moment between the two leaves each device so that it opens as a zone that this one may be
--- recovered as.
+-- A crash at any moment between the two leaves each honest device so that it opens as a zone that this one
+-- may be recovered as.
 abbrev pub LeaveRecovered : {D : Type 0} → Ghosts D → ℕ → Machine → Event → ℕ → List ZoneState → List D
     → List D → Type 0
 LeaveRecovered g tries m event index [] [] [] = Unit {0}
 LeaveRecovered g tries m event index (z ∷ zones) (d ∷ olds) (e ∷ news) =
-    LeavesOnly g.moment g.left_since d e (OpensAsRecovered opens tries (IsMaking m event index z) z)
+    (g.is_honest d
+    → LeavesOnly g.moment g.left_since d e (OpensAsRecovered opens tries (IsMaking m event index z) z))
     × LeaveRecovered g tries m event (suc index) zones olds news
 LeaveRecovered g tries m event index _ _ _ = ⊥
 
@@ -239,33 +248,78 @@ abbrev pub IsRecoveredAnew : {I S : Type 0} {i : zone_index.Ghosts I} {s : kept.
 IsRecoveredAnew tries m event p =
     (old new : Machine) × IsStopped tries m event old × IsConfigured old new × IsKept p new
 
--- They are devices of the machine still, and this was one try more.
+-- Each zone whose device is honest is that of the machine, which stopped within the event so many tries ago,
+-- and recovered; those from this position on.
+abbrev pub AreReopened : {D I : Type 0} → (g : Ghosts D) → ℕ → Machine → Event → ℕ → List ZoneState → List D
+    → List Zone → List (ZoneVersions I (KeptStore D I g)) → Type 0
+AreReopened g tries m event index [] [] [] [] = Unit {0}
+AreReopened g tries m event index (z ∷ states) (d ∷ devices) (y ∷ zones) (b ∷ pending) =
+    (g.is_honest d → (w : ZoneState) × IsRecovered 1 (suc tries) (IsMaking m event index z) z w
+    × HasVersions (λ s k. keeps s k) y b (kept_of w))
+    × AreReopened g tries m event (suc index) states devices zones pending
+AreReopened g tries m event index _ _ _ _ = ⊥
+
+-- Each device is as honest as it was.
+abbrev pub AreAsHonest : {D : Type 0} → Ghosts D → List D → List D → Type 0
+AreAsHonest g olds news = Each2 (λ d e. g.is_honest e ↔ g.is_honest d) olds news
+
+-- All devices are honest.
+abbrev pub AreHonest : {D : Type 0} → Ghosts D → List D → Type 0
+AreHonest g devices = AllByRecursion (λ d. g.is_honest d) devices
+
+-- The device at this position is honest, if there is one.
+abbrev pub IsHonestAt : {D : Type 0} → Ghosts D → ℕ → List D → Type 0
+IsHonestAt g index [] = Unit {0}
+IsHonestAt g zero (d ∷ devices) = g.is_honest d
+IsHonestAt g (suc index) (d ∷ devices) = IsHonestAt g index devices
+
+-- Each zone of the primary whose device was honest is one that recovered; and where all were, the primary is
+-- the machine.
+abbrev pub IsRecoveredOn : {D I : Type 0} {g : Ghosts D} {i : zone_index.Ghosts I}
+    {s : kept.Ghosts (KeptStore D I g)} → ℕ → Machine → Event → List D → Primary I (KeptStore D I g) i s
+    → Type 0
+IsRecoveredOn {g = g} tries m event devices p =
+    AreReopened g tries m event 0 m.zones devices (zones_of p) (pending_of p)
+    × (AreHonest g devices → IsRecoveredBy tries m event p)
+
+-- ... or that machine, which was then given other settings.
+abbrev pub IsRecoveredAnewOn : {D I : Type 0} {g : Ghosts D} {i : zone_index.Ghosts I}
+    {s : kept.Ghosts (KeptStore D I g)} → ℕ → Machine → Event → List D → Primary I (KeptStore D I g) i s
+    → Type 0
+IsRecoveredAnewOn {g = g} tries m event devices p =
+    AreReopened g tries m event 0 m.zones devices (zones_of p) (pending_of p)
+    × (AreHonest g devices → IsRecoveredAnew tries m event p)
+
+-- They are devices of the machine still, and this was one try more. What stopped it is said where the device
+-- of that zone was honest.
 abbrev pub StayDevicesOf : {D : Type 0} → Ghosts D → ℕ → Machine → Event → List Labels → List ZoneSpec
-    → NotOpened D → Type 0
-StayDevicesOf g tries m event apexes settings e =
+    → List D → NotOpened D → Type 0
+StayDevicesOf g tries m event apexes settings devices e =
     AreDevicesOf g (suc tries) m event apexes settings e.devices.items
-    × IsRecoveryStopped tries e.error e.index m.zones
+    × (IsHonestAt g e.index devices → IsRecoveryStopped tries e.error e.index m.zones)
 
 -- ... whose zones had these settings or others.
 abbrev pub StayDevicesAnew : {D : Type 0} → Ghosts D → ℕ → Machine → Event → List Labels → List ZoneSpec
-    → NotOpened D → Type 0
-StayDevicesAnew g tries m event apexes settings e =
+    → List D → NotOpened D → Type 0
+StayDevicesAnew g tries m event apexes settings devices e =
     AreDevicesAnew g (suc tries) m event apexes settings e.devices.items
-    × IsRecoveryStopped tries e.error e.index m.zones
+    × (IsHonestAt g e.index devices → IsRecoveryStopped tries e.error e.index m.zones)
 
--- A crash at any moment between the two leaves each device of the machine so that its zone may be recovered,
--- with one try more.
+-- A crash at any moment between the two leaves each honest device of the machine so that its zone may be
+-- recovered, with one try more.
 abbrev pub LeaveDevices : {D : Type 0} → Ghosts D → ℕ → Machine → Event → List D → List D → Type 0
 LeaveDevices g tries m event olds news = LeaveRecovered g (suc tries) m event 0 m.zones olds news
 
--- Opened on the devices of a machine that stopped, with so many tries since, it is a machine that recovered
--- from that stop; refused, they are such devices still, and this was one try more.
+-- Opened on the devices of a machine that stopped, with so many tries since, each zone whose device is honest
+-- recovered from that stop, and where all are it is a machine that did; refused, they are such devices still,
+-- and this was one try more.
 abbrev pub Recovers : {D I : Type 0} → (g : Ghosts D) → {i : zone_index.Ghosts I}
     {s : kept.Ghosts (KeptStore D I g)} → List Labels → List ZoneSpec → List D
     → Result (Primary I (KeptStore D I g) i s) (NotOpened D) → Type 0
 Recovers g apexes settings devices result =
     (m : Machine) (event : Event) (tries : ℕ) → AreDevicesOf g tries m event apexes settings devices
-    → MatchResult result (IsRecoveredBy tries m event) (StayDevicesOf g tries m event apexes settings)
+    → MatchResult result (IsRecoveredOn tries m event devices)
+    (StayDevicesOf g tries m event apexes settings devices)
 
 -- Where the machine had other settings, it is that machine, which was then given these.
 abbrev pub RecoversAnew : {D I : Type 0} → (g : Ghosts D) → {i : zone_index.Ghosts I}
@@ -273,9 +327,42 @@ abbrev pub RecoversAnew : {D I : Type 0} → (g : Ghosts D) → {i : zone_index.
     → Result (Primary I (KeptStore D I g) i s) (NotOpened D) → Type 0
 RecoversAnew g apexes settings devices result =
     (m : Machine) (event : Event) (tries : ℕ) → AreDevicesAnew g tries m event apexes settings devices
-    → MatchResult result (IsRecoveredAnew tries m event) (StayDevicesAnew g tries m event apexes settings)
+    → MatchResult result (IsRecoveredAnewOn tries m event devices)
+    (StayDevicesAnew g tries m event apexes settings devices)
 
--- A crash at any moment of it leaves each device as one that a crash might have left before.
+-- Each device is honest, or it isn't.
+abbrev pub AreHonestOrNot : {D : Type 0} → Ghosts D → List D → Type 0
+AreHonestOrNot g devices = AllByRecursion (λ d. g.is_honest d ⊎ (g.is_honest d → ⊥)) devices
+
+-- Each of these zones whose device is honest is that of the machine, which stopped within the event so many
+-- tries ago, and recovered, and was then given other settings; those from this position on.
+abbrev pub AreSetIfHonest : {D : Type 0} → Ghosts D → ℕ → Machine → Event → ℕ → List ZoneState → List D
+    → List ZoneState → Type 0
+AreSetIfHonest g tries m event index [] [] [] = Unit {0}
+AreSetIfHonest g tries m event index (z ∷ zones) (d ∷ devices) (x ∷ news) =
+    (g.is_honest d
+    → (w : ZoneState) × IsRecovered 1 (suc tries) (IsMaking m event index z) z w × IsSetAnew w x)
+    × AreSetIfHonest g tries m event (suc index) zones devices news
+AreSetIfHonest g tries m event index _ _ _ = ⊥
+
+-- Opened on these devices, whichever of them are honest, it is a machine with no connection, and nothing
+-- waits; and each zone whose device is honest recovered.
+abbrev pub IsMachineAnyway : {D I : Type 0} {g : Ghosts D} {i : zone_index.Ghosts I}
+    {s : kept.Ghosts (KeptStore D I g)} → ℕ → Machine → Event → List D → Primary I (KeptStore D I g) i s
+    → Type 0
+IsMachineAnyway {g = g} tries m event devices p =
+    (new : Machine) × AreSetIfHonest g tries m event 0 m.zones devices new.zones
+    × (new.waiting ≡ []) × (new.connections ≡ []) × IsKept p new
+
+-- What it promises of its replies rests on no honest device.
+abbrev pub HoldsAnyway : {D I : Type 0} → (g : Ghosts D) → {i : zone_index.Ghosts I}
+    {s : kept.Ghosts (KeptStore D I g)} → List Labels → List ZoneSpec → List D
+    → Result (Primary I (KeptStore D I g) i s) (NotOpened D) → Type 0
+HoldsAnyway g apexes settings devices result =
+    (m : Machine) (event : Event) (tries : ℕ) → AreDevicesAnew g tries m event apexes settings devices
+    → AreHonestOrNot g devices → IfOk result (IsMachineAnyway tries m event devices)
+
+-- A crash at any moment of it leaves each honest device as one that a crash might have left before.
 abbrev pub LeavesRecoverable : {D I : Type 0} → (g : Ghosts D) → {i : zone_index.Ghosts I}
     {s : kept.Ghosts (KeptStore D I g)} → List Labels → List ZoneSpec → List D
     → Result (Primary I (KeptStore D I g) i s) (NotOpened D) → Type 0

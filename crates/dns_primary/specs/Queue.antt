@@ -1,5 +1,5 @@
 -- An update that is for a primary whose replies have room for one more, and what is said of it.
-use Rattle.std.specs.Prelude.{◌≡◌, ◌+◌, ℕ, true, false, List, [], ◌∷◌, length, slice_get, Some}
+use Rattle.std.specs.Prelude.{◌≡◌, ◌↔◌, ◌+◌, ℕ, true, false, List, [], ◌∷◌, length, slice_get, Some}
 use Rattle.dns_wire.specs.Codes.{number_of_rcode}
 use Rattle.dns_request.specs.Codes.{rcode_servfail}
 use Rattle.dns_zone.specs.Zone.{Zone, soas}
@@ -27,11 +27,12 @@ abbrev pub asked_of : UpdateRequest → Asked
 asked_of u =
     record { to = u.to; address = u.address; message = u.request.message.message; zone = u.request.question }
 
--- No call was made on the device of the store, and so none failed.
+-- No call was made on the device of the store, and so none failed, and it is as honest as it was.
 pub record IsUntouched {S : Type 0} (moment : S → ℕ) (left_since : S → ℕ → Content → Type 0) (failed : S → ℕ)
-    (old new : S) : Type 0 where
+    (is_honest : S → Type 0) (old new : S) : Type 0 where
   pub still : StandsStill moment left_since old new
   pub quiet : failed new ≡ failed old
+  pub honest : is_honest new ↔ is_honest old
 
 -- The reply has the number and the serial of the newest of these versions.
 pub record IsOfNewest (k : Kept) (w : Waiting) : Type 0 where

@@ -1,5 +1,6 @@
 -- Steps of a primary, and what is said of them.
-use Rattle.std.specs.Prelude.{◌≡◌, ◌⊎◌, ℕ, zero, suc, Bool, true, ◌&&◌, ◌||◌, is_some, List, [], ◌∷◌, ◌++◌}
+use Rattle.std.specs.Prelude.{◌≡◌, ◌⊎◌, ◌↔◌, ℕ, zero, suc, Bool, true, ◌&&◌, ◌||◌, is_some}
+use Rattle.std.specs.Prelude.{List, [], ◌∷◌, ◌++◌}
 use Rattle.std.specs.Prelude.{Option, Some, None, Result, Ok, Err, map}
 use Rattle.dns_wire.specs.Message.{Header, Question, Message}
 use Rattle.dns_wire.specs.Codes.{number_of_rcode}
@@ -14,7 +15,7 @@ use Rattle.dns_store.specs.Versions.{Shape, Opened, OpensAsLeft}
 use Rattle.dns_store.specs.declared.checkpoint.CheckpointError.{CheckpointError}
 use Rattle.dns_store.specs.declared.checkpoint.CheckpointError.TheVariants as refused
 use Rattle.dns_versions.specs.declared.zone_versions.ZoneVersions.{ZoneVersions}
-use Rattle.dns_versions.specs.Each.{Each3}
+use Rattle.dns_versions.specs.Each.{Each2, Each3}
 use Rattle.dns_versions.specs.Flush.{FailedWhere}
 use Rattle.dns_versions.specs.Checkpoint.{OpensAsCheckpointed}
 use Rattle.dns_primary.specs.declared.event.Peer.{Peer}
@@ -46,12 +47,21 @@ event_shown (event.Checkpoint index) = machine.Checkpoint index
 event_shown (event.Pump number) = machine.Pump number
 event_shown (event.Closed number) = machine.Closed number
 
--- A crash at any moment between the two leaves each device so that it opens as the versions shown and the
--- first of those staged.
+-- If the store's device is honest, a crash at any moment between the two leaves of it what has P.
+abbrev pub LeavesIfHonest : {S : Type 0} → store.Ghosts S → S → S → (Content → Type 0) → Type 0
+LeavesIfHonest s old new P = s.is_honest old → LeavesOnly s.moment s.left_since old new P
+
+-- Each device is as honest as it was.
+abbrev pub StayHonest : {I S : Type 0} → store.Ghosts S → List (ZoneVersions I S) → List (ZoneVersions I S)
+    → Type 0
+StayHonest s olds news = Each2 (λ a b. s.is_honest b.store ↔ s.is_honest a.store) olds news
+
+-- A crash at any moment between the two leaves each honest device so that it opens as the versions shown and
+-- the first of those staged.
 abbrev pub AtAnyMoment : {I S : Type 0} → store.Ghosts S → Machine → List (ZoneVersions I S)
     → List (ZoneVersions I S) → Type 0
 AtAnyMoment s m olds news =
-    Each3 (λ a b k. LeavesOnly s.moment s.left_since a.store b.store (OpensAsLeft s.opens k)) olds news
+    Each3 (λ a b k. LeavesIfHonest s a.store b.store (OpensAsLeft s.opens k)) olds news
     (map kept_of m.zones)
 
 -- A primary took a step: these of the devices failed, which is said of each of them, the machine that it kept
@@ -63,6 +73,7 @@ pub record Stepped {I S : Type 0} {i : zone_index.Ghosts I} {s : store.Ghosts S}
   pub fails : List Bool
   pub failed : FailedWhere (λ b. s.failed b.store) fails old.pending.items new.pending.items
   pub any_moment : AtAnyMoment s m old.pending.items new.pending.items
+  pub honest : StayHonest s old.pending.items new.pending.items
   pub next : Machine
   pub stated : machine.Effects
   pub is : step fails stated next
@@ -88,22 +99,24 @@ abbrev pub OpensAsEvent : (Shape → Opened → Content → Type 0) → Option �
 OpensAsEvent opens None z c = OpensAsLeft opens (kept_of z) c
 OpensAsEvent opens (Some room) z c = OpensAsCheckpointed opens z.setting.keep room (kept_of z) c
 
--- A crash at any moment between the two leaves each device so that it opens as that.
+-- A crash at any moment between the two leaves each honest device so that it opens as that.
 abbrev pub AtAnyMomentOf : {I S : Type 0}
     → store.Ghosts S → Option (ℕ × ℕ) → Machine → List (ZoneVersions I S) → List (ZoneVersions I S) → Type 0
 AtAnyMomentOf s moved m olds news =
-    Each3 (λ a b k. LeavesOnly s.moment s.left_since a.store b.store (OpensAsEvent s.opens k.0 k.1)) olds news
+    Each3 (λ a b k. LeavesIfHonest s a.store b.store (OpensAsEvent s.opens k.0 k.1)) olds news
     (with_rooms moved m.zones)
 
 -- A primary took a step that may move the base of this zone, leaving that room: these of the devices failed,
--- which is said of each of them; at each moment a crash left each device as that allows; the machine that it
--- kept went on to the next one, which it keeps now, and the effects are reported.
+-- which is said of each of them; at each moment a crash left each honest device as that allows, and each is
+-- as honest as it was; the machine that it kept went on to the next one, which it keeps now, and the effects
+-- are reported.
 pub record SteppedOn {I S : Type 0} {i : zone_index.Ghosts I} {s : store.Ghosts S} (m : Machine)
     (moved : Option (ℕ × ℕ)) (old new : Primary I S i s) (effects : Effects)
     (step : List Bool → machine.Effects → Machine → Type 0) : Type 0 where
   pub fails : List Bool
   pub failed : FailedWhere (λ b. s.failed b.store) fails old.pending.items new.pending.items
   pub any_moment : AtAnyMomentOf s moved m old.pending.items new.pending.items
+  pub honest : StayHonest s old.pending.items new.pending.items
   pub next : Machine
   pub stated : machine.Effects
   pub is : step fails stated next

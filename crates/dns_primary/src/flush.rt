@@ -1,6 +1,6 @@
 //! The flush of all zones, and of the replies that waited for it.
-ghost use Rattle.std.specs.Prelude.{◌≡◌, ◌≢◌, ◌<◌, ◌≤◌, ◌+◌, ◌++◌, List, [], None, map, length, slice_get};
-ghost use Rattle.std.specs.Prelude.{vec_capacity};
+ghost use Rattle.std.specs.Prelude.{◌≡◌, ◌≢◌, ◌↔◌, ◌<◌, ◌≤◌, ◌+◌, ◌++◌, List, [], None, map, length};
+ghost use Rattle.std.specs.Prelude.{slice_get, vec_capacity};
 ghost use Rattle.dns_primary.specs.declared.event.Noted.TheVariants.{OutOfMemory as StatedLack};
 ghost use Rattle.dns_primary.specs.Step.{IsFlushed, noted_of};
 ghost use Rattle.dns_primary.specs.Steps.{Stepped};
@@ -124,8 +124,10 @@ fn flush_zones<I: ZoneIndex, S: ZoneStore>(
     ensures empty { waiting.new.items ≡ [] }
     ensures few { length headers.new.items ≤ 32 }
     ensures any_moment { (ks : List Kept) → AllHave S.keeps zones.old pending.old ks
-        → Each3 (λ a b k. LeavesOnly S.moment S.left_since a.store b.store (OpensAsLeft S.opens k))
+        → Each3 (λ a b k. S.is_honest a.store
+        → LeavesOnly S.moment S.left_since a.store b.store (OpensAsLeft S.opens k))
         pending.old pending.new ks }
+    ensures honest { Each2 (λ a b. S.is_honest b.store ↔ S.is_honest a.store) pending.old pending.new }
     ensures newest { newest_each zones.new pending.new ≡ newest_each zones.old pending.old }
 {
     let failed = flush_all(zones, pending);
@@ -149,8 +151,9 @@ impl<I: ZoneIndex, S: ZoneStore> Primary<I, S> {
     /// Makes durable what was staged, shows it, and lets go out what waits for it: SERVFAIL where a zone's
     /// device failed. It takes no memory.
     pub fn flush(&mut self) -> Effects
-        // Whatever older versions there were, it is the step of the machine, and a crash at any moment of it
-        // leaves each device so that it opens as the versions shown and the first of those staged.
+        // Whatever older versions there were, it is the step of the machine, on any devices; and a crash at
+        // any moment of it leaves each honest device so that it opens as the versions shown and the first of
+        // those staged.
         ensures step { (old : Machine) → IsKept self.old old
             → Stepped old self.old self.new result (λ fails stated next. IsFlushed fails old stated next) }
         ensures bare { result.message ≡ None }

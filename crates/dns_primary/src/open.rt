@@ -2,7 +2,8 @@
 ghost use Rattle.std.specs.Prelude.{◌≡◌, ◌≤◌, ◌+◌, ◌++◌, length, map, vec_capacity};
 ghost use Rattle.std.specs.Prelude.{IfErr, IfOk, MatchResult};
 ghost use Rattle.dns_primary.specs.HandOut.{LeavesAtRest, LeavesWithin};
-ghost use Rattle.dns_primary.specs.Open.{AreAllOpened, AreOpened, AreRefused, IsNotOpened, IsOpened};
+ghost use Rattle.dns_primary.specs.Open.{AreAllOpened, AreAsHonest, AreOpened, AreRefused, IsNotOpened};
+ghost use Rattle.dns_primary.specs.Open.{HoldsAnyway, IsOpened};
 ghost use Rattle.dns_primary.specs.Open.{LeavesRecoverable, Recovers, RecoversAnew, count_of};
 ghost use Rattle.dns_primary.specs.Open.{device_of_pending, devices_of};
 
@@ -149,8 +150,8 @@ impl<D: Sectors + Drop, I: ZoneIndex> Primary<I, KeptStore<D, I>> {
     ///
     /// If the store of one is refused, all devices are handed back, in the order in which they came: those
     /// before it were opened and those after it are as they were. On the devices of a machine that stopped,
-    /// however often recovery was itself stopped or refused before, it is refused only if that zone's device
-    /// failed, if memory was refused, if that store was opened 2^64 - 1 times, or if a sector of it that is in
+    /// however often recovery was itself stopped or refused before, one that is honest is refused only if it
+    /// failed, if memory was refused, if its store was opened 2^64 - 1 times, or if a sector of it that is in
     /// use was altered, which is then named.
     pub fn open(
         alloc: Heap,
@@ -160,15 +161,21 @@ impl<D: Sectors + Drop, I: ZoneIndex> Primary<I, KeptStore<D, I>> {
     ) -> Result<Primary<I, KeptStore<D, I>>, NotOpened<D>>
         requires as_many { length devices.items ≡ length settings.items }
         requires named { length apexes.now ≡ length settings.items }
-        // On the devices of a machine that stopped it is a machine that recovered from that stop; refused,
-        // the devices are such devices still, and this was one try more.
+        // On the devices of a machine that stopped each zone whose device is honest recovered from that stop,
+        // and where all are honest it is a machine that did; refused, the devices are such devices still, and
+        // this was one try more.
         ensures recovered { Recovers D.Sectors apexes.now settings.entry.items devices.entry.items result }
         // Where it had other settings, it is that machine, which was then given these.
         ensures configured { RecoversAnew D.Sectors apexes.now settings.entry.items devices.entry.items
             result }
-        // A crash at any moment of it leaves each device as one that a crash might have left before.
+        // Whichever of the devices are honest, it is a machine, and each zone whose device is honest recovered.
+        ensures anyway { HoldsAnyway D.Sectors apexes.now settings.entry.items devices.entry.items result }
+        // A crash at any moment of it leaves each honest device as one that a crash might have left before.
         ensures any_moment { LeavesRecoverable D.Sectors apexes.now settings.entry.items devices.entry.items
             result }
+        // Each device is as honest as it was.
+        ensures honest { MatchResult result (λ p. AreAsHonest D.Sectors devices.entry.items (devices_of p))
+            (λ e. AreAsHonest D.Sectors devices.entry.items e.devices.items) }
         // It has a zone for each device, whatever was on them.
         ensures count { IfOk result (λ p. count_of p ≡ length devices.entry.items) }
         // Each device was opened as its zone, whatever was on the others.
@@ -216,7 +223,7 @@ impl<D: Sectors + Drop, I: ZoneIndex> Primary<I, KeptStore<D, I>> {
     /// is lost, as by a stop.
     pub fn into_stores(self) -> Vec<ZoneVersions<I, KeptStore<D, I>>, Heap>
         ensures handed_out { map (λ b. device_of_pending b) result.items ≡ devices_of self }
-        // Between two events: a machine that it keeps, which stops here.
+        // Between two events: a machine that it keeps, which stops here. It is said of each honest device.
         ensures at_rest { LeavesAtRest D.Sectors self (devices_of self) }
         // Within the event that led here: the machine from which it came.
         ensures within { LeavesWithin D.Sectors self (devices_of self) }

@@ -52,9 +52,10 @@ impl<I: ZoneIndex, S: ZoneStore> Primary<I, S> {
     /// and the checkpoint that came first.
     #[inline(always)]
     pub fn step(&mut self, alloc: Heap, event: Event<'_>) -> Effects
-        // Whatever older versions there were, it is the step of the machine, and a crash at any moment of it
-        // leaves each device so that it opens as the versions shown and the first of those staged, and the
-        // zone of a checkpoint, also of one that comes before an update, so or with its next base.
+        // Whatever older versions there were, it is the step of the machine, on any devices; and a crash at
+        // any moment of it leaves each honest device so that it opens as the versions shown and the first of
+        // those staged, and the zone of a checkpoint, also of one that comes before an update, so or with its
+        // next base. Each device is as honest as it was.
         ensures step { (old : Machine) → IsKept self.old old
             → SteppedBy old (event_shown event.entry) self.old self.new result }
         ensures memory { takes_memory (event_shown event.entry) ≡ false → result.noted ≢ StatedLack }

@@ -290,7 +290,7 @@ impl<I: ZoneIndex, S: ZoneStore> Primary<I, S> {
             planned }
         ensures done { (m : Machine) → IsKept self.old m → HoldsStill m (asked_of update.now) index planned
             → IsAnswered (IsKept self.new) m (asked_of update.now) (answer m (asked_of update.now)) result }
-        ensures still { Each2 (λ a b. IsUntouched S.moment S.left_since S.failed a.store b.store)
+        ensures still { Each2 (λ a b. IsUntouched S.moment S.left_since S.failed S.is_honest a.store b.store)
             self.old.pending.items self.new.pending.items }
         ensures as_many { length self.new.pending.items ≡ length self.old.pending.items }
     {

@@ -13,27 +13,26 @@ use Rattle.dns_primary.specs.declared.primary.ZoneSpec.{ZoneSpec}
 use Rattle.dns_primary.specs.Machine.{Machine, ZoneState}
 use Rattle.dns_primary.specs.Step.{Event}
 use Rattle.dns_primary.specs.Stop.{IsMaking}
-use Rattle.dns_primary.specs.Open.{AreRecoverable, IsRecoverable}
+use Rattle.dns_primary.specs.Open.{AreHonest, AreRecoverable, IsRecoverable}
 use Rattle.dns_replay.specs.Keeps.{ZoneKeep}
 use Rattle.dns_replay.specs.Crashes.{AreLeftBy, IsLeftBy, keep_at}
 use Rattle.dns_replay.specs.Runs.{AreSame}
 
 module _ {D : Type 0} (g : Ghosts D) (tries : ℕ) (m : Machine) (event : Event) where
-  pub crashed_recoverable : (kept : D → told.Keep → Content) (keeps : List ZoneKeep) (at index : ℕ) (zones : List ZoneState) (names : List Labels) (settings : List ZoneSpec) (olds news : List D) → AreRecoverable g tries m event index zones names settings olds → AreLeftBy g kept keeps at olds news → AreRecoverable g tries m event index zones names settings news
-  crashed_recoverable kept keeps at index [] [] [] [] [] is each = tt
-  crashed_recoverable kept keeps at index (z ∷ zones) (a ∷ names) (s ∷ settings) (d ∷ olds) (e ∷ news) is each = (
+  pub crashed_recoverable : (kept : D → told.Keep → Content) (keeps : List ZoneKeep) (at index : ℕ) (zones : List ZoneState) (names : List Labels) (settings : List ZoneSpec) (olds news : List D) → AreRecoverable g tries m event index zones names settings olds → AreHonest g olds → AreLeftBy g kept keeps at olds news → AreRecoverable g tries m event index zones names settings news
+  crashed_recoverable kept keeps at index [] [] [] [] [] is honest each = tt
+  crashed_recoverable kept keeps at index (z ∷ zones) (a ∷ names) (s ∷ settings) (d ∷ olds) (e ∷ news) is honest each = (
     record {
       shape = is.0.shape;
       set = is.0.set;
       range = is.0.range;
-      honest = each.0.honest is.0.honest;
-      leaves = λ c left. is.0.leaves c (each.0.left c is.0.honest left);
+      leaves = λ _ c left. is.0.leaves honest.0 c (each.0.left c honest.0 left);
     },
-    crashed_recoverable kept keeps (suc at) (suc index) zones names settings olds news is.1 each.1,
+    crashed_recoverable kept keeps (suc at) (suc index) zones names settings olds news is.1 honest.1 each.1,
   )
-  crashed_recoverable kept keeps at index zones names settings [] (e ∷ news) is each = absurd each
-  crashed_recoverable kept keeps at index zones names settings (d ∷ olds) [] is each = absurd each
-  crashed_recoverable kept keeps at index _ _ _ olds news is each = absurd is
+  crashed_recoverable kept keeps at index zones names settings [] (e ∷ news) is honest each = absurd each
+  crashed_recoverable kept keeps at index zones names settings (d ∷ olds) [] is honest each = absurd each
+  crashed_recoverable kept keeps at index _ _ _ olds news is honest each = absurd is
 
   same_recoverable : (making : ℕ → Type 0) (z : ZoneState) (a : Labels) (s t : ZoneSpec) (d : D) → AreSame s t → IsRecoverable g tries making z a s d → IsRecoverable g tries making z a t d
   same_recoverable making z a s t d same is = record {
@@ -44,7 +43,6 @@ module _ {D : Type 0} (g : Ghosts D) (tries : ℕ) (m : Machine) (event : Event)
       transfer = λ address. subst (λ (l : List (IpAddr × ℕ)). IsTrue (z.setting.may_transfer address) ↔ IsAllowed l address) (sym same.transfer) (is.set.transfer address);
     };
     range = subst (λ n. IsInRange n t.journal) (sym same.snapshot) (subst (λ n. IsInRange s.snapshot n) (sym same.journal) is.range);
-    honest = is.honest;
     leaves = is.leaves;
   }
 

@@ -4,6 +4,7 @@ pub mod Printing
 pub mod Running
 pub mod Kept
 pub mod Crashed
+pub mod Honest
 pub mod Reopened
 pub mod Loaded
 pub mod Led

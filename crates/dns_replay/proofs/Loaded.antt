@@ -15,7 +15,7 @@ use Rattle.dns_primary.specs.Machine.{Made, Machine, ZoneState, versions_of}
 use Rattle.dns_primary.specs.Step.{Event, Flush}
 use Rattle.dns_primary.specs.Stop.{IsMaking, IsRecovered, AreRecovered, IsStopped, reopened_as}
 use Rattle.dns_primary.specs.Fresh.{IsLoaded, IsFresh}
-use Rattle.dns_primary.specs.Open.{AreRecoverable, IsRecoverable, shape_of}
+use Rattle.dns_primary.specs.Open.{AreAsHonest, AreDevicesOf, AreRecoverable, IsRecoverable, IsRecoveredOn, devices_of, shape_of}
 use Rattle.dns_primary.specs.HandOut.{AreSetAs}
 use Rattle.dns_replay.specs.Made.{IsMadeOf}
 use Rattle.std.specs.Io.KnownBytes.{Appends}
@@ -34,6 +34,7 @@ use Rattle.dns_sectors.specs.Device.{Content}
 use Rattle.dns_sectors.specs.declared.memory.Keep as told
 use Rattle.dns_replay.proofs.Crashed.{reset_recoverable}
 use Rattle.dns_replay.proofs.Reopened.{none_kept, none_moved}
+use Rattle.dns_replay.proofs.Honest.{as_honest, made_honest}
 
 -- sizes that are not refused
 pub in_range : (snapshot journal count : ℕ) → ((IsGeometry snapshot journal count → ⊥) → ⊥) → IsInRange snapshot journal
@@ -60,8 +61,7 @@ module _ {D : Type 0} (g : Ghosts D) (m : Machine) where
     shape = is.shape;
     set = record { keep = is.set.keep; update = is.set.update; transfer = is.set.transfer };
     range = made.range;
-    honest = made.honest;
-    leaves = λ c left.
+    leaves = λ _ c left.
         let opened : first_of y.records ≡ reopened_as (unopened z) = λ i. record { loaded = sym is.loaded i; versions = versions_of (sym is.shown i); base = sym is.base i; openings = 0; altered = sym is.altered i } in
         let recovered : IsRecovered 0 0 making (unopened z) (unopened z) = record {
           setting = refl;
@@ -169,18 +169,20 @@ each3_same R _ _ _ h = absurd h
 
 -- what a script does over a primary that was opened for the devices that were made
 pub runs_from : {D I : Type 0} {g : Ghosts D} {i : zone_index.Ghosts I} {s : store.Ghosts (KeptStore D I g)} (kept : D → told.Keep → Content) (zones : List Zone) (settings again : List ZoneSpec) (names : List Labels) (devices : List D) (p : Primary I (KeptStore D I g) i s) (lines : List (List ℕ)) (ending : Ending) (out out_after : Option (List ℕ)) → names ≡ map (λ (z : Zone). z.apex) zones → Each2 AreSame settings again → Each3 (IsMadeOf g) zones settings devices
-    → ((m : Machine) (event : Event) (tries : ℕ) → AreRecoverable g tries m event 0 m.zones names again devices → (new : Machine) × IsStopped tries m event new × IsKept p new)
+    → ((m : Machine) (event : Event) (tries : ℕ) → AreDevicesOf g tries m event names again devices → IsRecoveredOn tries m event devices p)
+    → AreAsHonest g devices (devices_of p)
     → RanScript kept names settings lines ending p out out_after → RunsFrom g kept zones settings lines ending out out_after
-runs_from {g = g} kept zones settings again names devices p lines ending out out_after e same made opens ran = record { begins = fresh_machine zones settings (each3_same (IsMadeOf g) zones settings devices made); leads = leads }
+runs_from {g = g} kept zones settings again names devices p lines ending out out_after e same made opens still ran = record { begins = fresh_machine zones settings (each3_same (IsMadeOf g) zones settings devices made); leads = leads }
   where
     leads : (start : Machine) → IsFresh zones settings start → (led : Led) × Runs (map (λ (z : Zone). z.apex) zones) (IsCrash g kept (map (λ (z : Zone). z.apex) zones) settings) (Takes start) 1 lines led ending × Run start led.moments × Appends out out_after led.text
     leads start fresh =
         let made_so = all_recoverable g (before_opening start) Flush 0 zones settings start.zones devices made fresh.zones_are in
         let named = subst (λ (ns : List Labels). AreRecoverable g 0 (before_opening start) Flush 0 (before_opening start).zones ns settings devices) (sym e) made_so in
-        let opened = opens (before_opening start) Flush 0 (reset_recoverable g 0 (before_opening start) Flush 0 (before_opening start).zones names settings again devices same named) in
+        let honest = made_honest g zones settings devices made in
+        let opened = (opens (before_opening start) Flush 0 (reset_recoverable g 0 (before_opening start) Flush 0 (before_opening start).zones names settings again devices same named)).1 honest in
         let is : opened.0 ≡ start = same_machine zones settings start opened.0 fresh opened.1 in
         let set = subst (λ (ns : List Labels). AreSetAs ns settings start.zones) (sym e) (all_set g zones settings start.zones devices made fresh.zones_are) in
-        let done = ran start (record { zones = zones; loaded = settings; first = start; fresh = fresh; set = set; before = []; run = tt; last = refl }) (subst (λ (m : Machine). IsKept p m) is opened.2) in
+        let done = ran start (record { zones = zones; loaded = settings; first = start; fresh = fresh; set = set; before = []; run = tt; last = refl }) (subst (λ (m : Machine). IsKept p m) is opened.2, as_honest g devices (devices_of p) still honest) in
         subst (λ (ns : List Labels). (led : Led) × Runs ns (IsCrash g kept ns settings) (Takes start) 1 lines led ending × Run start led.moments × Appends out out_after led.text) e done
 
 -- one more device

@@ -11,10 +11,11 @@ use Rattle.dns_primary.specs.Machine.{Made, Machine, Setting, ZoneState}
 use Rattle.dns_primary.specs.Keeps.{IsSet}
 use Rattle.dns_primary.specs.Step.{Event, Flush}
 use Rattle.dns_primary.specs.Stop.{IsMaking, IsRecovered, AreRecovered, IsStopped, reopened_as}
-use Rattle.dns_primary.specs.Open.{AreRecoverable}
+use Rattle.dns_primary.specs.Open.{AreHonest, AreRecoverable}
 use Rattle.dns_replay.specs.Keeps.{ZoneKeep}
-use Rattle.dns_replay.specs.Crashes.{AreLeftBy, AreOpenedOver, IsLeftBy, keep_at}
+use Rattle.dns_replay.specs.Crashes.{AreHonestDevicesOf, AreLeftBy, AreOpenedOver, IsLeftBy, keep_at}
 use Rattle.dns_replay.proofs.Crashed.{crashed_recoverable}
+use Rattle.dns_replay.proofs.Honest.{crashed_honest}
 
 pub none_kept : (kept lost : List Made) → [] ≡ kept ++ lost → kept ≡ []
 none_kept [] lost e = refl
@@ -113,40 +114,39 @@ module _ {D : Type 0} (g : Ghosts D) (stays : (device : D) → g.is_honest devic
   AreHeld index (z ∷ zones) (d ∷ devices) (w ∷ held) = IsHeld index z d w × AreHeld (suc index) zones devices held
   AreHeld index _ _ _ = ⊥
 
-  held_on : (index : ℕ) (zones : List ZoneState) (names : List Labels) (settings : List ZoneSpec) (devices : List D) → AreRecoverable g tries m event index zones names settings devices → (held : List ZoneState) × AreHeld index zones devices held
-  held_on index [] [] [] [] is = ([], tt)
-  held_on index (z ∷ zones) (a ∷ names) (s ∷ settings) (d ∷ devices) is =
-      let one = is.0.leaves (g.seen d) (stays d is.0.honest) in
-      let rest = held_on (suc index) zones names settings devices is.1 in
+  held_on : (index : ℕ) (zones : List ZoneState) (names : List Labels) (settings : List ZoneSpec) (devices : List D) → AreRecoverable g tries m event index zones names settings devices → AreHonest g devices → (held : List ZoneState) × AreHeld index zones devices held
+  held_on index [] [] [] [] is honest = ([], tt)
+  held_on index (z ∷ zones) (a ∷ names) (s ∷ settings) (d ∷ devices) is honest =
+      let one = is.0.leaves honest.0 (g.seen d) (stays d honest.0) in
+      let rest = held_on (suc index) zones names settings devices is.1 honest.1 in
       (one.0 ∷ rest.0, (record { recovered = one.1; opens_as = one.2 }, rest.1))
-  held_on index _ _ _ _ is = absurd is
+  held_on index _ _ _ _ is honest = absurd is
 
   module _ (kept : D → told.Keep → Content) (keeps : List ZoneKeep) where
     -- a crash leaves what is read, and nothing else
     only_seen : (keep : _) (d e : D) → g.is_honest d → IsLeftBy g kept keep d e → (c : Content) → g.may_leave e c → g.seen e ≡ c
     only_seen keep d e honest is c left = is.exact honest (g.seen e) (stays e (is.honest honest)) ∙ sym (is.exact honest c left)
 
-    held_recoverable : (other : Machine) (at index : ℕ) (zones : List ZoneState) (names : List Labels) (settings : List ZoneSpec) (olds news : List D) (held : List ZoneState) → AreRecoverable g tries m event index zones names settings olds → AreLeftBy g kept keeps at olds news → AreHeld index zones news held → AreRecoverable g 0 other Flush index held names settings news
-    held_recoverable other at index [] [] [] [] [] [] is each h = tt
-    held_recoverable other at index (z ∷ zones) (a ∷ names) (s ∷ settings) (d ∷ olds) (e ∷ news) (w ∷ held) is each h = (
+    held_recoverable : (other : Machine) (at index : ℕ) (zones : List ZoneState) (names : List Labels) (settings : List ZoneSpec) (olds news : List D) (held : List ZoneState) → AreRecoverable g tries m event index zones names settings olds → AreHonest g olds → AreLeftBy g kept keeps at olds news → AreHeld index zones news held → AreRecoverable g 0 other Flush index held names settings news
+    held_recoverable other at index [] [] [] [] [] [] is honest each h = tt
+    held_recoverable other at index (z ∷ zones) (a ∷ names) (s ∷ settings) (d ∷ olds) (e ∷ news) (w ∷ held) is honest each h = (
       record {
         shape = ap (λ (x : Setting). x.shape) h.0.recovered.setting ∙ is.0.shape;
         set = set_again s z w h.0.recovered.setting is.0.set;
         range = is.0.range;
-        honest = each.0.honest is.0.honest;
-        leaves = λ c left. (
+        leaves = λ _ c left. (
           w,
           recovered_itself tries (IsMaking m event index z) (IsMaking other Flush index w) z w h.0.recovered,
-          subst (λ (x : Content). opens w.setting.shape (reopened_as w) x) (only_seen (keep_at keeps at) d e is.0.honest each.0 c left) h.0.opens_as,
+          subst (λ (x : Content). opens w.setting.shape (reopened_as w) x) (only_seen (keep_at keeps at) d e honest.0 each.0 c left) h.0.opens_as,
         );
       },
-      held_recoverable other (suc at) (suc index) zones names settings olds news held is.1 each.1 h.1,
+      held_recoverable other (suc at) (suc index) zones names settings olds news held is.1 honest.1 each.1 h.1,
     )
-    held_recoverable other at index zones names settings [] (e ∷ news) held is each h = absurd each
-    held_recoverable other at index zones names settings (d ∷ olds) [] held is each h = absurd each
-    held_recoverable other at index (z ∷ zones) names settings (d ∷ olds) (e ∷ news) [] is each h = absurd h
-    held_recoverable other at index [] names settings [] [] (w ∷ held) is each h = absurd h
-    held_recoverable other at index _ _ _ olds news held is each h = absurd is
+    held_recoverable other at index zones names settings [] (e ∷ news) held is honest each h = absurd each
+    held_recoverable other at index zones names settings (d ∷ olds) [] held is honest each h = absurd each
+    held_recoverable other at index (z ∷ zones) names settings (d ∷ olds) (e ∷ news) [] is honest each h = absurd h
+    held_recoverable other at index [] names settings [] [] (w ∷ held) is honest each h = absurd h
+    held_recoverable other at index _ _ _ olds news held is honest each h = absurd is
 
   opened_over_all : (other : Machine) (index : ℕ) (zones : List ZoneState) (devices : List D) (held news : List ZoneState) → AreHeld index zones devices held → AreRecovered 1 1 other Flush index held news → AreRecovered 1 (suc tries) m event index zones news × AreOpenedOver g devices news
   opened_over_all other index [] [] [] [] h r = (tt, tt)
@@ -163,13 +163,14 @@ module _ {D : Type 0} (g : Ghosts D) (stays : (device : D) → g.is_honest devic
   opened_over_all other index _ _ _ _ h r = absurd h
 
   -- The machine that is opened over devices that crashed is what is left on them.
-  pub opened_over : (P : Machine → Type 0) (kept : D → told.Keep → Content) (keeps : List ZoneKeep) (names : List Labels) (settings : List ZoneSpec) (olds news : List D) → AreRecoverable g tries m event 0 m.zones names settings olds → AreLeftBy g kept keeps 0 olds news
-      → ((m : Machine) (event : Event) (tries : ℕ) → AreRecoverable g tries m event 0 m.zones names settings news → (new : Machine) × IsStopped tries m event new × P new)
+  pub opened_over : (P : Machine → Type 0) (kept : D → told.Keep → Content) (keeps : List ZoneKeep) (names : List Labels) (settings : List ZoneSpec) (olds news : List D) → AreHonestDevicesOf g tries m event names settings olds → AreLeftBy g kept keeps 0 olds news
+      → ((m : Machine) (event : Event) (tries : ℕ) → AreHonestDevicesOf g tries m event names settings news → (new : Machine) × IsStopped tries m event new × P new)
       → (new : Machine) × IsStopped tries m event new × P new × AreOpenedOver g news new.zones
   opened_over P kept keeps names settings olds news is each opens =
-      let crashed = crashed_recoverable g tries m event kept keeps 0 0 m.zones names settings olds news is each in
-      let held = held_on 0 m.zones names settings news crashed in
+      let crashed = crashed_recoverable g tries m event kept keeps 0 0 m.zones names settings olds news is.0 is.1 each in
+      let honest = crashed_honest g kept keeps 0 olds news each is.1 in
+      let held = held_on 0 m.zones names settings news crashed honest in
       let other : Machine = record { zones = held.0; waiting = []; connections = [] } in
-      let new = opens other Flush 0 (held_recoverable kept keeps other 0 0 m.zones names settings olds news held.0 is each held.1) in
+      let new = opens other Flush 0 (held_recoverable kept keeps other 0 0 m.zones names settings olds news held.0 is.0 is.1 each held.1, honest) in
       let both = opened_over_all other 0 m.zones news held.0 new.0.zones held.1 new.1.zones in
       (new.0, record { zones = both.0; waiting = new.1.waiting; connections = new.1.connections }, new.2, both.1)

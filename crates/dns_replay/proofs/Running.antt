@@ -12,7 +12,6 @@ use Rattle.dns_store.specs.declared.kept_store.KeptStore.{KeptStore}
 use Rattle.dns_primary.specs.declared.primary.Primary.{Primary}
 use Rattle.dns_primary.specs.declared.primary.ZoneSpec.{ZoneSpec}
 use Rattle.dns_primary.specs.Machine.{Machine}
-use Rattle.dns_primary.specs.Keeps.{IsKept}
 use Rattle.dns_primary.specs.HandOut.{AreSetAs}
 use Rattle.dns_primary.specs.Runs.{Moment, Run, machine_at_end}
 use Rattle.dns_primary.specs.Step.{Flush}
@@ -25,7 +24,7 @@ use Rattle.dns_replay.proofs.Printing.{appends_more, nothing_more}
 use Rattle.dns_replay.specs.Scripts.{Standing, Takes, Stands, machine_of, Commanded, Nothing, Happens, Plans, Crashes, Reopens, Crash, Led, LeadsByCommand, CrashLeads, LineLeads, LineRefuses, IsNoCommand, Runs, idle}
 use Rattle.dns_replay.specs.Keeps.{ZoneKeep}
 use Rattle.dns_replay.specs.Crashes.{IsCrash}
-use Rattle.dns_replay.specs.Runs.{IsAt, IsMachineReached, LeadsOn, RanScript}
+use Rattle.dns_replay.specs.Runs.{IsAt, IsKeptOnHonest, IsMachineReached, LeadsOn, RanScript}
 
 -- moments after others
 pub runs_joined : (start : Machine) (xs ys : List Moment) → Run start xs → Run (machine_at_end start xs) ys → Run start (xs ++ ys)
@@ -120,7 +119,7 @@ module _ (names : List Labels) (crash : Crash) (start : Machine) (all : List (Li
 module _ {D I : Type 0} {g : Ghosts D} {i : zone_index.Ghosts I} {s : store.Ghosts (KeptStore D I g)} (left_by : D → told.Keep → Content) (names : List Labels) (settings : List ZoneSpec) (all : List (List ℕ)) (first : Primary I (KeptStore D I g) i s) where
   abbrev pub AreRunUpTo : ℕ → List (List ℕ) → Option (List ℕ) → Option (List ℕ) → Option (Primary I (KeptStore D I g) i s) → List D → Type 0
   AreRunUpTo number left out out_now p devices =
-      (start : Machine) → IsMachineReached names settings start → IsKept first start → (now : Standing) × IsRunUpTo names (IsCrash g left_by names settings) start all number left out out_now now × IsAt names settings p devices now
+      (start : Machine) → IsMachineReached names settings start → IsKeptOnHonest first start → (now : Standing) × IsRunUpTo names (IsCrash g left_by names settings) start all number left out out_now now × IsAt names settings p devices now
 
   pub begin_all : (out : Option (List ℕ)) (devices : List D) → AreRunUpTo 1 all out out (Some first) devices
   begin_all out devices start reached kept = (Takes start, run_begins names (IsCrash g left_by names settings) start all out, kept)

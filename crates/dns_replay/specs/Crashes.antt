@@ -8,7 +8,8 @@ use Rattle.dns_sectors.specs.declared.memory.Keep.TheVariants as told_keep
 use Rattle.dns_store.specs.Opens.{opens}
 use Rattle.dns_primary.specs.declared.primary.ZoneSpec.{ZoneSpec}
 use Rattle.dns_primary.specs.Machine.{Machine, ZoneState}
-use Rattle.dns_primary.specs.Open.{AreRecoverable}
+use Rattle.dns_primary.specs.Open.{AreDevicesOf, AreHonest, AreRecoverable}
+use Rattle.dns_primary.specs.Step.{Event}
 use Rattle.dns_primary.specs.Stop.{IsRecovered, reopened_as}
 use Rattle.dns_replay.specs.Keeps.{Keep, All, These, ZoneKeep}
 use Rattle.dns_replay.specs.Scripts.{Standing, event_in, machine_of, tries_in}
@@ -58,11 +59,19 @@ AreOpenedOver g [] [] = Unit {0}
 AreOpenedOver g (d ∷ devices) (z ∷ zones) = IsOpenedOver g d z × AreOpenedOver g devices zones
 AreOpenedOver g _ _ = ⊥
 
+-- These are the devices of the machine, which stopped within the event, so many tries ago, and are honest.
+abbrev pub AreHonestDevicesOf : {D : Type 0} → Ghosts D → ℕ → Machine → Event → List Labels → List ZoneSpec
+    → List D → Type 0
+AreHonestDevicesOf g tries m event names settings devices =
+    AreDevicesOf g tries m event names settings devices × AreHonest g devices
+
 module _ {D : Type 0} (g : Ghosts D) (kept : D → told.Keep → Content) (names : List Labels)
     (settings : List ZoneSpec) where
-  -- The devices of a script in this state crash, keeping these of their pending writes, and are those now.
+  -- The devices of a script in this state, which are honest, crash, keeping these of their pending writes,
+  -- and are those now.
   pub record AreCrashed (s : Standing) (keeps : List ZoneKeep) (after : List D) : Type 0 where
     pub before : List D
+    pub honest : AreHonest g before
     pub stood : AreRecoverable g (tries_in s) (machine_of s) (event_in s) 0
         (machine_of s).zones names settings before
     pub left : AreLeftBy g kept keeps 0 before after

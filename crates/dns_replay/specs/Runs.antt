@@ -18,14 +18,13 @@ use Rattle.dns_primary.specs.declared.primary.ZoneSpec.{ZoneSpec}
 use Rattle.dns_primary.specs.Machine.{Machine}
 use Rattle.dns_primary.specs.Keeps.{IsKept, header_out, reply_out}
 use Rattle.dns_primary.specs.Step.{Event}
-use Rattle.dns_primary.specs.Steps.{SteppedBy}
 use Rattle.dns_primary.specs.Stop.{IsStopped}
-use Rattle.dns_primary.specs.Open.{AreDevicesOf, AreRecoverable}
+use Rattle.dns_primary.specs.Open.{AreHonest, devices_of}
 use Rattle.dns_primary.specs.HandOut.{AreSetAs}
 use Rattle.dns_primary.specs.Runs.{Moment, Run, machine_at_end}
 use Rattle.dns_primary.specs.Fresh.{IsFresh}
 use Rattle.dns_replay.specs.Keeps.{ZoneKeep}
-use Rattle.dns_replay.specs.Crashes.{IsCrash}
+use Rattle.dns_replay.specs.Crashes.{AreHonestDevicesOf, IsCrash}
 use Rattle.dns_replay.specs.Scripts.{Standing, Takes, Stands, event_in, machine_of, tries_in, Commanded}
 use Rattle.dns_replay.specs.Scripts.{Crashes, Reopens, Led, EventLeads, PlanLeads, LeadsByCommand, LineLeads}
 use Rattle.dns_replay.specs.Scripts.{LineRefuses, IsNoCommand, MayRefuse, Runs, printed_refusal, printed_stop}
@@ -52,13 +51,19 @@ abbrev pub crash_by : List ZoneKeep → Option ℕ → Commanded
 crash_by keeps None = Crashes keeps
 crash_by keeps (Some n) = Reopens keeps
 
+-- The primary keeps the machine, on honest devices.
+abbrev pub IsKeptOnHonest : {D I : Type 0} {g : Ghosts D} {i : zone_index.Ghosts I}
+    {s : store.Ghosts (KeptStore D I g)} → Primary I (KeptStore D I g) i s → Machine → Type 0
+IsKeptOnHonest {g = g} p m = IsKept p m × AreHonest g (devices_of p)
+
 module _ {D I : Type 0} {g : Ghosts D} {i : zone_index.Ghosts I} {s : store.Ghosts (KeptStore D I g)}
     (names : List Labels) (settings : List ZoneSpec)
   where
-    -- A primary keeps the machine; or of one that stopped within an event these devices are left.
+    -- A primary keeps the machine; or of one that stopped within an event these devices are left. The devices
+    -- are honest.
     abbrev pub IsAt : Option (Primary I (KeptStore D I g) i s) → List D → Standing → Type 0
-    IsAt (Some p) devices (Takes m) = IsKept p m
-    IsAt None devices (Stands m event tries) = AreRecoverable g tries m event 0 m.zones names settings devices
+    IsAt (Some p) devices (Takes m) = IsKeptOnHonest p m
+    IsAt None devices (Stands m event tries) = AreHonestDevicesOf g tries m event names settings devices
     IsAt (Some p) devices (Stands m event tries) = ⊥
     IsAt None devices (Takes m) = ⊥
 
@@ -70,21 +75,21 @@ module _ {D I : Type 0} {g : Ghosts D} {i : zone_index.Ghosts I} {s : store.Ghos
         → (led : Led) × leads from led × Appends out out_after led.text × IsAt q left led.standing
 
 module _ {D I : Type 0} {g : Ghosts D} {i : zone_index.Ghosts I} {s : store.Ghosts (KeptStore D I g)} where
-  -- Whatever state a script is in, these are the devices of its machine.
+  -- Whatever state a script is in, these are the devices of its machine, and honest.
   abbrev pub AreTakenOf : Option (Primary I (KeptStore D I g) i s) → List D → List D → Type 0
   AreTakenOf p devices taken =
       (names : List Labels) (settings : List ZoneSpec) (from : Standing)
       → IsAt names settings p devices from → AreSetAs names settings (machine_of from).zones
-      → AreDevicesOf g (tries_in from) (machine_of from) (event_in from) names settings taken
+      → AreHonestDevicesOf g (tries_in from) (machine_of from) (event_in from) names settings taken
 
-  -- In a world of these names and settings the stores on devices are opened again: whatever machine stopped
-  -- on them, it recovers; or they are refused, and it was one try more.
+  -- In a world of these names and settings the stores on honest devices are opened again: whatever machine
+  -- stopped on them, it recovers; or they are refused, and it was one try more. The devices stay honest.
   abbrev pub OpensIn : World → List D → Result (Primary I (KeptStore D I g) i s) (NotOpened D) → Type 0
   OpensIn world devices opened =
       (m : Machine) (event : Event) (tries : ℕ)
-      → AreDevicesOf g tries m event world.origins.now world.settings.now devices
-      → MatchResult opened (λ p. (new : Machine) × IsStopped tries m event new × IsKept p new)
-      (λ e. AreDevicesOf g (suc tries) m event world.origins.now world.settings.now e.devices.items)
+      → AreHonestDevicesOf g tries m event world.origins.now world.settings.now devices
+      → MatchResult opened (λ p. (new : Machine) × IsStopped tries m event new × IsKeptOnHonest p new)
+      (λ e. AreHonestDevicesOf g (suc tries) m event world.origins.now world.settings.now e.devices.items)
 
   -- There an event leads on,
   abbrev pub EventLeadsIn : World → Event → Option (Primary I (KeptStore D I g) i s) → List D
@@ -155,13 +160,13 @@ pub record IsMachineReached (names : List Labels) (settings : List ZoneSpec) (m 
   pub run : Run first before
   pub last : machine_at_end first before ≡ m
 
--- From each such machine that the primary kept, the lines lead there, by moments that are a run of the
--- machine.
+-- From each such machine that the primary kept, on honest devices, the lines lead there, by moments that are
+-- a run of the machine.
 abbrev pub RanScript : {D I : Type 0} {g : Ghosts D} {i : zone_index.Ghosts I}
     {s : store.Ghosts (KeptStore D I g)} → (D → told.Keep → Content) → List Labels → List ZoneSpec
     → List (List ℕ) → Ending → Primary I (KeptStore D I g) i s → Option (List ℕ) → Option (List ℕ) → Type 0
 RanScript {g} kept names settings lines ending primary out out_after =
-    (start : Machine) → IsMachineReached names settings start → IsKept primary start
+    (start : Machine) → IsMachineReached names settings start → IsKeptOnHonest primary start
     → (led : Led) × Runs names (IsCrash g kept names settings) (Takes start) 1 lines led ending
     × Run start led.moments × Appends out out_after led.text
 

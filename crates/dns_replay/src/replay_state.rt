@@ -7,6 +7,7 @@ ghost use Rattle.dns_replay.specs.Commands.{said_keep, said_zone_keep};
 ghost use Rattle.dns_replay.specs.Crashes.{AreLeftBy, IsToldAs, keep_at};
 ghost use Rattle.dns_replay.specs.Runs.{AreSame, AreTakenOf, DoesIn, EventLeadsIn, IsOpeningRefused};
 ghost use Rattle.dns_primary.specs.HandOut.{LeavesAtRest, LeavesWithin};
+ghost use Rattle.dns_primary.specs.Open.{devices_of};
 ghost use Rattle.dns_replay.specs.Runs.{OpensIn, crash_by};
 
 use crate::device::ScriptDevice;
@@ -262,6 +263,7 @@ fn devices_of<D: ScriptDevice, I: ZoneIndex>(
     alloc: Heap,
     primary: Primary<I, KeptStore<D, I>>,
 ) -> Result<Vec<D, Heap>, AllocError>
+    ensures handed_out { IfOk result (λ devices. devices.items ≡ devices_of primary) }
     ensures at_rest { IfOk result (λ devices. LeavesAtRest D.Sectors primary devices.items) }
     ensures within { IfOk result (λ devices. LeavesWithin D.Sectors primary devices.items) }
 {

@@ -155,8 +155,8 @@ fn run_line<D: ScriptDevice, I: ZoneIndex, W: Write>(
 }
 
 /// Runs a script over a primary, whose zones have the names and the settings of the world and whose devices
-/// have its plan, and writes the effects of each line in order. What was written before a line that ends the
-/// run stays. A line ends with LF or CR LF.
+/// are honest and have its plan, and writes the effects of each line in order. What was written before a line
+/// that ends the run stays. A line ends with LF or CR LF.
 pub fn run_script<D: ScriptDevice, I: ZoneIndex, W: Write>(
     world: World<'_>,
     primary: Primary<I, KeptStore<D, I>>,

@@ -10,6 +10,7 @@ use Rattle.dns_zone.specs.Sets.{Sorted, sorted_from, sorted_put, sorted_filter}
 use Rattle.dns_changes.specs.Change.{Change, is_soa, is_formed, are_present, are_new, removed_from}
 use Rattle.dns_changes.specs.Laws.{LeadsTo}
 use Rattle.dns_changes.specs.declared.ChangeError.{ChangeError}
+use Rattle.dns_changes.proofs.Formed.{form_parts}
 use Rattle.dns_changes.proofs.Steps.{present_next, removed_next, removed_none, new_next, united_next}
 use Rattle.dns_secondary.specs.Taken.{AreOthers, Removes, Adds, Applies}
 
@@ -60,17 +61,13 @@ applies_of c set result ordered formed h =
     let present = passes (not (are_present set (c.old_soa ∷ c.removed))) _ _ old.1 in
     let new = passes (not (are_new (removed_from set (c.old_soa ∷ c.removed)) (c.new_soa ∷ c.added))) _ _ present.1 in
     let left = removed_from set (c.old_soa ∷ c.removed) in
-    let five = both_true _ (is_ordered c.added) formed in
-    let four = both_true _ (is_ordered c.removed) five.0 in
-    let three = both_true _ (not (list_any is_soa c.added)) four.0 in
-    let two = both_true _ (not (list_any is_soa c.removed)) three.0 in
-    let one = both_true (is_soa c.old_soa) (is_soa c.new_soa) two.0 in
+    let parts = form_parts c formed in
     let comes = adds_of left (c.new_soa ∷ c.added) (sorted_filter _ set sorted) (is_true _ new.0) in
     record {
-      old_soa = one.0;
-      new_soa = one.1;
-      no_soas_go = others_of c.removed (is_false (list_any is_soa c.removed) two.1);
-      no_soas_come = others_of c.added (is_false (list_any is_soa c.added) three.1);
+      old_soa = parts.old_soa;
+      new_soa = parts.new_soa;
+      no_soas_go = others_of c.removed parts.gone;
+      no_soas_come = others_of c.added parts.come;
       left = left;
       goes = removes_of set (c.old_soa ∷ c.removed) sorted (is_true _ present.0);
       comes = subst (λ (whole : List Record). Adds left (c.new_soa ∷ c.added) whole) h.result comes;

@@ -1,6 +1,6 @@
 -- How a server ends, by what its parts told.
 use Rattle.std.proofs.Common.{◌≡◌, ℕ, true, false, zero, suc, inl, inr, List, [], ◌∷◌, ◌++◌, map, Result, Ok, Err, IfOk, refl, arith, subst, length}
-use Rattle.std.specs.Prelude.{◌⊎◌, MatchResult}
+use Rattle.std.specs.Prelude.{◌⊎◌, ◌↔◌, MatchResult}
 use Rattle.std.specs.Option.{option_copied}
 use Rattle.std.specs.Result.{IsErr, result_unwrap_or}
 use Rattle.std.specs.Io.KnownBytes.{Appends}
@@ -27,7 +27,7 @@ use Rattle.dns_versions.specs.Each.{Each2}
 use Rattle.dns_primary.specs.HandOut.{AreSetAs}
 use Rattle.dns_primary.specs.Keeps.{IsKept}
 use Rattle.dns_primary.specs.Machine.{Machine, ZoneState}
-use Rattle.dns_primary.specs.Open.{AreOpened, AreRecoverable, AreRecoverableAnew, LeaveRecovered, devices_of}
+use Rattle.dns_primary.specs.Open.{AreAsHonest, AreOpened, AreRecoverable, AreRecoverableAnew, LeaveRecovered, devices_of}
 use Rattle.dns_primary.specs.Runs.{Moment, Took, Stopped, Configured, Run, machine_at_end}
 use Rattle.dns_primary.specs.Step.{Event}
 use Rattle.dns_primary.specs.Stop.{IsMaking, IsStopped, OpensAsRecovered}
@@ -35,7 +35,7 @@ use Rattle.dns_primary.specs.declared.primary.Primary.{Primary}
 use Rattle.dns_primary.specs.declared.primary.ZoneSpec.{ZoneSpec}
 use Rattle.dns_primary.proofs.Brought.{StaysSet, step_set, stopped_set, all_stay_set, stay_set_on}
 use Rattle.dns_primary.proofs.StaysSet.{set_lasts}
-use Rattle.dns_network.specs.Left.{AreLeftFrom, OpensInRun}
+use Rattle.dns_network.specs.Left.{AreLeftFrom, IsLeftSo, OpensInRun}
 use Rattle.dns_network.specs.Turn.{TurnMoment}
 use Rattle.dns_network.specs.Runs.{IsStepOf, Told, told_by}
 use Rattle.dns_service.specs.Log.{zone_lines}
@@ -89,33 +89,38 @@ run_set (t ∷ told) start (Configured new ∷ run) r each = absurd each.0
 pub whichever_set : {D : Type 0} (g : Ghosts D) (tries : ℕ) (m : Machine) (event : Event) (index : ℕ) (zones : List ZoneState) (names : List Labels) (known : List ZoneSpec) (devices : List D) → AreRecoverable g tries m event index zones names known devices → AreRecoverableAnew g tries m event index zones names known devices
 whichever_set g tries m event index [] [] [] [] h = tt
 whichever_set g tries m event index (z ∷ zones) (a ∷ names) (s ∷ known) (d ∷ devices) h =
-    (record { shape = h.0.shape; set = tt; range = h.0.range; honest = h.0.honest; leaves = h.0.leaves }, whichever_set g tries m event (suc index) zones names known devices h.1)
+    (record { shape = h.0.shape; set = tt; range = h.0.range; leaves = h.0.leaves }, whichever_set g tries m event (suc index) zones names known devices h.1)
 whichever_set g tries m event index _ _ _ _ h = absurd h
 
 -- What a crash leaves from the opening of devices to their closing.
 module _ {D I S : Type 0} (g : Ghosts D) (s : store.Ghosts S) (device_in : S → D) (tries : ℕ) (m : Machine) (event : Event) (start : Machine) (run : List Moment)
-    (there : (x y : S) (index : ℕ) → LeavesOnly s.moment s.left_since x y (OpensInRun s.opens start run index) → LeavesOnly g.moment g.left_since (device_in x) (device_in y) (OpensInRun opens start run index)) where
-  served_from : (index : ℕ) (zones : List ZoneState) (devices : List D) (olds news : List (ZoneVersions I S)) → LeaveRecovered g tries m event index zones devices (map (λ (b : ZoneVersions I S). device_in b.store) olds) → AreLeftFrom s index start run olds news
+    (there : (x y : S) (index : ℕ) → IsLeftSo s x y (OpensInRun s.opens start run index)
+    → (g.is_honest (device_in y) ↔ g.is_honest (device_in x)) × (g.is_honest (device_in x) → LeavesOnly g.moment g.left_since (device_in x) (device_in y) (OpensInRun opens start run index))) where
+  served_from : (index : ℕ) (zones : List ZoneState) (devices : List D) (olds news : List (ZoneVersions I S)) → LeaveRecovered g tries m event index zones devices (map (λ (b : ZoneVersions I S). device_in b.store) olds)
+      → AreAsHonest g devices (map (λ (b : ZoneVersions I S). device_in b.store) olds) → AreLeftFrom s index start run olds news
       → AreServedFrom g tries m event start run index zones devices (map (λ (b : ZoneVersions I S). device_in b.store) news)
-  served_from index [] [] [] [] h k = tt
-  served_from index (z ∷ zones) (d ∷ devices) (a ∷ olds) (b ∷ news) h k =
+  served_from index [] [] [] [] h same k = tt
+  served_from index (z ∷ zones) (d ∷ devices) (a ∷ olds) (b ∷ news) h same k =
+      let on = there a.store b.store index k.0 in
       let opened : Content → Type 0 = λ c. OpensAsRecovered opens tries (IsMaking m event index z) z c in
       let ran : Content → Type 0 = λ c. OpensInRun opens start run index c in
       let either : Content → Type 0 = λ c. opened c ⊎ ran c in (
-        joined g.moment g.left_since d (device_in a.store) (device_in b.store) either ran
-            (weaker g.moment g.left_since d (device_in a.store) opened either h.0 (λ c left. inl left)) (there a.store b.store index k.0) (λ c left. inr left),
-        served_from (suc index) zones devices olds news h.1 k.1,
+        (λ x. same.0.0 (on.0.0 x), λ x. on.0.1 (same.0.1 x)),
+        λ honest. joined g.moment g.left_since d (device_in a.store) (device_in b.store) either ran
+            (weaker g.moment g.left_since d (device_in a.store) opened either (h.0 honest) (λ c left. inl left)) (on.1 (same.0.1 honest)) (λ c left. inr left),
+        served_from (suc index) zones devices olds news h.1 same.1 k.1,
       )
-  served_from index [] (d ∷ devices) olds news h k = absurd h
-  served_from index (z ∷ zones) [] olds news h k = absurd h
-  served_from index [] [] (a ∷ olds) news h k = absurd h
-  served_from index [] [] [] (b ∷ news) h k = absurd k
-  served_from index (z ∷ zones) (d ∷ devices) [] news h k = absurd h
-  served_from index (z ∷ zones) (d ∷ devices) (a ∷ olds) [] h k = absurd k
+  served_from index [] (d ∷ devices) olds news h same k = absurd h
+  served_from index (z ∷ zones) [] olds news h same k = absurd h
+  served_from index [] [] (a ∷ olds) news h same k = absurd h
+  served_from index [] [] [] (b ∷ news) h same k = absurd k
+  served_from index (z ∷ zones) (d ∷ devices) [] news h same k = absurd h
+  served_from index (z ∷ zones) (d ∷ devices) (a ∷ olds) [] h same k = absurd k
 
 -- What ran from a machine that recovered, and whose devices were closed.
 module _ {D I : Type 0} (g : Ghosts D) {i : zone_index.Ghosts I} {s : store.Ghosts (KeptStore D I g)} (c : Configuration) (opening : List (DeviceCall D)) (old new : Primary I (KeptStore D I g) i s) (is : IsServed g opening c.zones.items (IsOpenedAs old))
-    (there : (start : Machine) (run : List Moment) (x y : KeptStore D I g) (index : ℕ) → LeavesOnly s.moment s.left_since x y (OpensInRun s.opens start run index) → LeavesOnly g.moment g.left_since (store_device x) (store_device y) (OpensInRun opens start run index))
+    (there : (start : Machine) (run : List Moment) (x y : KeptStore D I g) (index : ℕ) → IsLeftSo s x y (OpensInRun s.opens start run index)
+    → (g.is_honest (store_device y) ↔ g.is_honest (store_device x)) × (g.is_honest (store_device x) → LeavesOnly g.moment g.left_since (store_device x) (store_device y) (OpensInRun opens start run index)))
     (left : (m : Machine) (event : Event) (names : List Labels) (known : List ZoneSpec) → IsKept new m → AreSetAs names known m.zones → AreRecoverable g 0 m event 0 m.zones names known (devices_of new)) where
   -- So it is of whichever machine the turns led to.
   led : (turns : List (List TurnMoment)) (m : Machine) (event : Event) (tries : ℕ) → AreRecoverable g tries m event 0 m.zones (origins_of c.zones.items) is.known is.devices → (start : Machine) → IsStopped tries m event start → IsOpenedAs old is.devices is.known m event tries start → HaveRun turns (IsLedTo old new) start
@@ -128,7 +133,7 @@ module _ {D I : Type 0} (g : Ghosts D) {i : zone_index.Ghosts I} {s : store.Ghos
         ran.1,
         (
           (λ within. left (machine_at_end start ran.0) within names is.known ran.2.0 end),
-          served_from {I = I} g s (λ x. store_device x) (suc tries) m event start ran.0 (there start ran.0) 0 m.zones is.devices old.pending.items new.pending.items opened.1 ran.2.1,
+          served_from {I = I} g s (λ x. store_device x) (suc tries) m event start ran.0 (there start ran.0) 0 m.zones is.devices old.pending.items new.pending.items opened.2 opened.1 ran.2.1,
         ),
       )
 
@@ -146,8 +151,8 @@ module _ {D I : Type 0} (g : Ghosts D) {i : zone_index.Ghosts I} {s : store.Ghos
       known = is.known;
       settings = is.settings;
       intact = is.intact;
-      recovered = λ m event tries may.
-          let to = is.recovered m event tries may in
+      recovered = λ m event tries may honest.
+          let to = is.recovered m event tries may honest in
           let turned = run to.0 to.2.0 in
           (to.0, to.1, (turned.0, led turns m event tries may to.0 to.1 to.2 turned.1));
     };
@@ -166,8 +171,8 @@ module _ {D I : Type 0} (g : Ghosts D) {i : zone_index.Ghosts I} {s : store.Ghos
       known = is.known;
       settings = is.settings;
       intact = is.intact;
-      recovered = λ m event tries may.
-          let to = is.recovered m event tries may in
+      recovered = λ m event tries may honest.
+          let to = is.recovered m event tries may honest in
           (to.0, to.1, led turns m event tries may to.0 to.1 to.2 (run to.0 to.2.0));
     };
   }

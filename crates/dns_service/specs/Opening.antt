@@ -11,8 +11,8 @@ use Rattle.dns_zone.specs.declared.index.ZoneIndex as zone_index
 use Rattle.dns_store.specs.declared.kept_store.KeptStore.{KeptStore}
 use Rattle.dns_store.specs.declared.zone_store.ZoneStore as store
 use Rattle.dns_primary.specs.Keeps.{IsKept}
-use Rattle.dns_primary.specs.Open.{AreRecoverable, AreRefused, IsIntactAs, LeaveRecovered, devices_of}
-use Rattle.dns_primary.specs.Open.{shape_of}
+use Rattle.dns_primary.specs.Open.{AreAsHonest, AreHonest, AreRecoverable, AreRefused, IsIntactAs}
+use Rattle.dns_primary.specs.Open.{LeaveRecovered, devices_of, shape_of}
 use Rattle.dns_primary.specs.declared.primary.Primary.{Primary}
 use Rattle.dns_primary.specs.Step.{Event}
 use Rattle.dns_primary.specs.Stop.{IsStopped}
@@ -85,7 +85,8 @@ AreDevicesIntact g (a ∷ apexes) (s ∷ settings) (d ∷ devices) =
 AreDevicesIntact g _ _ _ = ⊥
 
 -- The stores of the devices that were opened were opened, which were intact: on those of a machine that
--- stopped, this is said of one that recovered from that stop, of zones with these settings.
+-- stopped, if all are honest, this is said of one that recovered from that stop, of zones with these
+-- settings.
 pub record IsServed {D : Type 0} (g : Ghosts D) (calls : List (DeviceCall D)) (zones : List ZoneSettings)
     (says : OfRecovered D) : Type 0 where
   pub devices : List D
@@ -95,6 +96,7 @@ pub record IsServed {D : Type 0} (g : Ghosts D) (calls : List (DeviceCall D)) (z
   pub intact : AreDevicesIntact g (origins_of zones) known devices
   pub recovered : (m : Machine) (event : Event) (tries : ℕ)
       → AreRecoverable g tries m event 0 m.zones (origins_of zones) known devices
+      → AreHonest g devices
       → (new : Machine) × IsStopped tries m event new × says devices known m event tries new
 
 -- The fault of the device there among those that were handed back, which it left so; where there is none,
@@ -124,9 +126,10 @@ abbrev pub IsNotServed : {D : Type 0} → Ghosts D → List (DeviceCall D) → L
 IsNotServed g calls zones index fault =
     IsNotGiven calls zones index fault ⊎ IsZoneNotOpened g calls zones index fault
 
--- A primary keeps the machine that recovered, and a crash at any moment of opening the stores leaves each
--- device as one that a zone of the stopped machine may be recovered as.
+-- A primary keeps the machine that recovered; each device is as honest as it was; and a crash at any moment
+-- of opening the stores leaves each honest one as one that a zone of the stopped machine may be recovered as.
 abbrev pub IsOpenedAs : {D I : Type 0} {g : Ghosts D} {i : zone_index.Ghosts I}
     {s : store.Ghosts (KeptStore D I g)} → Primary I (KeptStore D I g) i s → OfRecovered D
 IsOpenedAs {g} p devices known m event tries new =
-    IsKept p new × LeaveRecovered g (suc tries) m event 0 m.zones devices (devices_of p)
+    IsKept p new × AreAsHonest g devices (devices_of p)
+    × LeaveRecovered g (suc tries) m event 0 m.zones devices (devices_of p)

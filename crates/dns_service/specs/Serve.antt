@@ -1,5 +1,5 @@
 -- How a server ends.
-use Rattle.std.specs.Prelude.{◌≡◌, ◌⊎◌, ◌≤◌, ℕ, zero, suc, Bool, List, [], ◌∷◌, ◌++◌, length}
+use Rattle.std.specs.Prelude.{◌≡◌, ◌⊎◌, ◌↔◌, ◌≤◌, ℕ, zero, suc, Bool, List, [], ◌∷◌, ◌++◌, length}
 use Rattle.std.specs.Prelude.{Option, Ok, Err}
 use Rattle.std.specs.Option.{option_copied}
 use Rattle.std.specs.String.{string_bytes}
@@ -57,8 +57,8 @@ pub record IsDeviceRefused {D : Type 0} (g : Ghosts D) (calls : List (DeviceCall
   pub says : text ≡ device_text path fault explain
   pub status : status_of fault ≡ 1
 
--- Each crash of these devices leaves what the zones of this machine may be recovered as, whichever event it
--- fell in.
+-- Each crash of these devices, where they are honest, leaves what the zones of this machine may be recovered
+-- as, whichever event it fell in.
 abbrev pub AreLeft : {D : Type 0} → Ghosts D → List ZoneSettings → List D → List ZoneSpec → Machine → Type 0
 AreLeft g zones devices known m =
     (event : Event) → AreRecoverable g 0 m event 0 m.zones (origins_of zones) known devices
@@ -72,15 +72,17 @@ ArePrimaryClosed {g} calls zones primary =
     × ((m : Machine) (event : Event) (names : List Labels) (known : List ZoneSpec) → IsKept primary m
     → AreSetAs names known m.zones → AreRecoverable g 0 m event 0 m.zones names known (devices_of primary))
 
--- A crash at any moment from the opening of devices to their closing leaves each, by itself, as one that the
--- zone of the machine that stopped may be recovered as, or as the run from the one that recovered allows;
--- those from this position on.
+-- Each device, those from this position on, was closed as honest as it was opened; and a crash at any moment
+-- between leaves each honest one, by itself, as one that the zone of the machine that stopped may be
+-- recovered as, or as the run from the one that recovered allows.
 abbrev pub AreServedFrom : {D : Type 0} → Ghosts D → ℕ → Machine → Event → Machine → List Moment → ℕ
     → List ZoneState → List D → List D → Type 0
 AreServedFrom g tries m event start run index [] [] [] = Unit {0}
 AreServedFrom g tries m event start run index (z ∷ zones) (d ∷ devices) (e ∷ back) =
-    LeavesOnly g.moment g.left_since d e (λ c. OpensAsRecovered opens tries (IsMaking m event index z) z c
-    ⊎ OpensInRun opens start run index c)
+    (g.is_honest e ↔ g.is_honest d)
+    × (g.is_honest d
+    → LeavesOnly g.moment g.left_since d e (λ c. OpensAsRecovered opens tries (IsMaking m event index z) z c
+    ⊎ OpensInRun opens start run index c))
     × AreServedFrom g tries m event start run (suc index) zones devices back
 AreServedFrom g tries m event start run index _ _ _ = ⊥
 

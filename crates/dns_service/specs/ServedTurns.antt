@@ -77,7 +77,7 @@ abbrev pub HasRun : (Machine → Type 0) → OfRun → Type 0
 HasRun keeps says = (turns : List (List TurnMoment)) × ((m : Machine) → keeps m → HaveRun turns says m)
 
 -- The run led from one primary to the other: to the machine that this keeps, and a crash at any moment of it
--- leaves each zone's store as it allows.
+-- leaves each zone's store, if its device is honest, as it allows.
 abbrev pub IsLedTo : {I S : Type 0} {i : zone_index.Ghosts I} {s : store.Ghosts S} → Primary I S i s
     → Primary I S i s → OfRun
 IsLedTo old new m run = IsKept new (machine_at_end m run) × LeadsThrough old new m run

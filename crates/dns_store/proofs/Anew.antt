@@ -29,11 +29,11 @@ use Rattle.dns_store.specs.Versions.{Versions, Shape, Opened, newest_after, move
 use Rattle.dns_store.specs.Opens.{IsPartOf, IsPartOfIn, base_of, durable_part, fresh, opens, sizes_of}
 use Rattle.dns_store.specs.Recovered.{AreLed}
 use Rattle.dns_store.specs.Plain.{sectors_of_snapshot}
-use Rattle.dns_store.specs.Checkpoint.{AllZones, IsBaseOf, IsNextBase}
+use Rattle.dns_store.specs.Checkpoint.{AllFit, AllZones, IsBaseOf, IsNextBase}
 use Rattle.dns_store.specs.Choosing.{IsChosen, version_from}
 use Rattle.dns_store.specs.Migrating.{IsMigrated, IsReadOld, StaysOrMigrates, MigratesAsPossible, old_opens}
 use Rattle.dns_store.proofs.Places.{versions_behind}
-use Rattle.dns_store.proofs.Moving.{AllFit, fit_last, led_count, newest_on, part_turned}
+use Rattle.dns_store.proofs.Moving.{fit_last, led_count, newest_on, part_turned}
 use Rattle.dns_store.proofs.Lent.{led_take, led_drop, zones_of, zones_take}
 use Rattle.dns_store.proofs.Opening.{stands_first}
 use Rattle.dns_store.proofs.Entering.{unaltered}

@@ -24,7 +24,7 @@ use Rattle.dns_layout.specs.declared.format.Format.TheVariants.{Two}
 use Rattle.dns_store.specs.Opens.{AreChangesIn, IsPartOfIn, AreChanges, IsPartOf, IsKeptBy, IsClosedBy, KeepsVersionsBy, opens, sizes_of, durable_part}
 use Rattle.dns_store.specs.Recovered.{AreLed}
 use Rattle.dns_store.specs.Plain.{sectors_of_snapshot}
-use Rattle.dns_store.specs.Checkpoint.{IsBaseOf}
+use Rattle.dns_store.specs.Checkpoint.{AllFit, IsBaseOf}
 use Rattle.dns_store.proofs.Leaves.{newest_append}
 use Rattle.dns_store.proofs.Places.{versions_behind, left_kept, number_kept}
 
@@ -41,11 +41,6 @@ changes_valid f apex room (suc n) before [] es valid are = valid
 changes_valid f apex room (suc n) before (v ∷ vs) [] valid are = absurd are
 changes_valid f apex room (suc n) before (v ∷ vs) (e ∷ es) valid are = changes_valid f apex room n v vs es are.0.valid are.1
 
--- each of these versions takes at most so many sectors as a snapshot
-abbrev pub AllFit : ℕ → Versions → Type 0
-AllFit room [] = Unit {0}
-AllFit room (v ∷ vs) = (sectors_of_snapshot v ≤ room) × AllFit room vs
-
 pub changes_fit : (apex : Labels) (room : ℕ) (before : List Record) (vs : Versions) (es : List Entry) → AreChanges apex room before vs es → AllFit room vs
 changes_fit apex room before [] es are = tt
 changes_fit apex room before (v ∷ vs) [] are = absurd are
@@ -57,7 +52,7 @@ newest_fits room zero before vs first fit = first
 newest_fits room (suc n) before [] first fit = first
 newest_fits room (suc n) before (v ∷ vs) first fit = newest_fits room n v vs fit.0 fit.1
 
-fit_drop : (room n : ℕ) (vs : Versions) → AllFit room vs → AllFit room (drop n vs)
+pub fit_drop : (room n : ℕ) (vs : Versions) → AllFit room vs → AllFit room (drop n vs)
 fit_drop room zero vs fit = fit
 fit_drop room (suc n) [] fit = tt
 fit_drop room (suc n) (v ∷ vs) fit = fit_drop room n vs fit.1
@@ -167,7 +162,7 @@ module _ (k : Kept) (s : Stored) (base : ℕ) (octets : List ℕ) (changes : Lis
     ),
   )
 
-nothing_staged : (apex : Labels) (room : ℕ) (before : List Record) (vs : Versions) (es : List Entry) → vs ≡ [] → AreChanges apex room before vs es → es ≡ []
+pub nothing_staged : (apex : Labels) (room : ℕ) (before : List Record) (vs : Versions) (es : List Entry) → vs ≡ [] → AreChanges apex room before vs es → es ≡ []
 nothing_staged apex room before vs es none are = only es (subst (λ (l : Versions). AreChanges apex room before l es) none are)
   where
     only : (fs : List Entry) → AreChanges apex room before [] fs → fs ≡ []

@@ -17,6 +17,7 @@ use Rattle.dns_zone.proofs.OneSoa.{Conditions, conditions, past, untrue, zone_so
 use Rattle.dns_zone.proofs.Alone.{AreAlone, is_alias, is_wild, later, refuted, of_all, all_of, of_none, none_of, put_from, one_of, few_of, alone_from, from_alone}
 use Rattle.dns_changes.specs.Applied.{not_true, one_is}
 use Rattle.dns_changes.specs.Change.{Change, applied, change_fault, is_formed, is_soa, removed_from}
+use Rattle.dns_changes.proofs.Formed.{form_parts}
 use Rattle.dns_store.specs.Staying.{has_crowded_alias, may_stand, stays_zone}
 
 -- ---- where a record of the set comes from
@@ -71,24 +72,16 @@ module _ (apex : Labels) (before : List Record) (c : Change) (h : IsZone (record
   -- a SOA that is there is the new one
   soa_is : (r : Record) → contains (applied c before) r ≡ true → is_soa r ≡ true → r ≡ c.new_soa
   soa_is r there e =
-      let old = is_soa c.old_soa in
-      let new = is_soa c.new_soa in
-      let gone = not (list_any is_soa c.removed) in
-      let come = not (list_any is_soa c.added) in
-      let one = both_true (old && new && gone && come && is_ordered c.removed) (is_ordered c.added) formed in
-      let two = both_true (old && new && gone && come) (is_ordered c.removed) one.0 in
-      let three = both_true (old && new && gone) come two.0 in
-      let four = both_true (old && new) gone three.0 in
-      let five = both_true old new four.0 in
+      let parts = form_parts c formed in
       elim (comes_from r there) [
         | inl s ↦ elim (either_true (same r c.new_soa) (contains c.added r) s) [
           | inl t ↦ same_is r c.new_soa t
-          | inr t ↦ refuted (is_soa r) e (of_none is_soa c.added (not_true (list_any is_soa c.added) three.1) r t)
+          | inr t ↦ refuted (is_soa r) e (of_none is_soa c.added parts.come r t)
         ]
         | inr s ↦
             (let had = zone_soa (record { apex = apex; records = before }) h in
             let old_there = untrue (contains before c.old_soa) (past (not (contains before c.old_soa)) _ _ fits).0 in
-            let is : r ≡ c.old_soa = one_is before had.soa r had.one s.0 e ∙ sym (one_is before had.soa c.old_soa had.one old_there five.0) in
+            let is : r ≡ c.old_soa = one_is before had.soa r had.one s.0 e ∙ sym (one_is before had.soa c.old_soa had.one old_there parts.old_soa) in
             refuted (contains (c.old_soa ∷ c.removed) r) (first_in c.old_soa r c.removed is) (not_true (contains (c.old_soa ∷ c.removed) r) s.1))
       ]
 

@@ -12,6 +12,7 @@ use Rattle.dns_journal.specs.declared.journal.Journal.{Journal}
 use Rattle.dns_store.specs.Versions.{Versions, Kept, newest_after, version_at}
 use Rattle.dns_store.specs.Room.{entries_along}
 use Rattle.dns_store.specs.Opens.{journal_keeps as keeps_versions}
+use Rattle.dns_store.specs.Plain.{sectors_of_snapshot}
 use Rattle.dns_store.specs.declared.checkpoint.CheckpointError.{CheckpointError}
 use Rattle.dns_store.specs.declared.checkpoint.CheckpointError.TheVariants.{Device, Closed, OutOfMemory}
 use Rattle.dns_store.specs.Recovered.{AreLed}
@@ -43,18 +44,15 @@ entries_after_base k = drop k.base (entries_along k.loaded k.shown)
 abbrev pub IsKeptNumber : Kept → ℕ → ℕ → ℕ → Type 0
 IsKeptNumber k keep room n = IsMostKept (λ size. size) (entries_after_base k) keep (k.shape.journal - room) n
 
--- Nothing is staged, and these are the base version and the changes from there to the durable one.
-pub record IsBaseLent {D : Type 0} {g : Ghosts D} (journal : Journal D g) (base : Zone)
-    (changes : List Change) (k : Kept) : Type 0 where
-  pub keeps : keeps_versions journal k
-  pub nothing_staged : k.staged ≡ []
-  pub base_is : base ≡ record { apex = k.shape.apex; records = version_at k k.base }
-  pub led : AreLed (version_at k k.base) (drop k.base k.shown) changes
-
 -- each of these versions is a valid zone
 abbrev pub AllZones : Labels → Versions → Type 0
 AllZones apex [] = Unit {0}
 AllZones apex (v ∷ vs) = IsZone (record { apex = apex; records = v }) × AllZones apex vs
+
+-- each of these versions takes at most so many sectors as a snapshot
+abbrev pub AllFit : ℕ → Versions → Type 0
+AllFit room [] = Unit {0}
+AllFit room (v ∷ vs) = (sectors_of_snapshot v ≤ room) × AllFit room vs
 
 -- Of the valid zones that these changes lead to from the first records, P.
 abbrev pub EachLed : Labels → List Record → List Change → (Versions → Type 0) → Type 0

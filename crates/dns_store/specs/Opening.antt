@@ -25,8 +25,10 @@ use Rattle.dns_store.specs.declared.kept_store.KeptStore.{KeptStore}
 use Rattle.dns_store.specs.declared.recovery.Recovered.{Recovered}
 use Rattle.dns_store.specs.Opens.{IsPartOf, IsPartOfIn, base_of, fresh, opens, sizes_of}
 use Rattle.dns_store.specs.Damage.{NamesAlteredIn, NamesAltered, IsReachedIn, bank_at, bank_until}
-use Rattle.dns_store.specs.Checkpoint.{IsBaseLent}
-use Rattle.dns_store.specs.Holding.{HoldsVersions}
+use Rattle.dns_store.specs.Holding.{HoldsInMemory, HoldsVersions}
+use Rattle.dns_store.specs.Checkpoint.{AllZones, AllFit}
+use Rattle.dns_store.specs.Plain.{sectors_of_snapshot}
+use Rattle.dns_store.specs.Room.{sectors_left}
 use Rattle.dns_store.specs.Recovered.{AreLed}
 
 -- sizes that a store may have
@@ -166,13 +168,33 @@ abbrev pub OnDevice : {D I : Type 0} {g : Ghosts D} → Result (KeptStore D I g 
     → (D → Type 0) → Type 0
 OnDevice result P = MatchResult result (λ r. P (store_device r.0)) (λ e. P e.0)
 
--- The store keeps these versions, with nothing staged.
-abbrev pub KeepsFlushed : {D I : Type 0} {g : Ghosts D} → KeptStore D I g → Kept → Type 0
-KeepsFlushed store k = IsBaseLent store.journal store.base store.changes.items k
-
 -- The store keeps these versions.
 abbrev pub keeps : {D I : Type 0} {g : Ghosts D} → KeptStore D I g → Kept → Type 0
 keeps store k = HoldsVersions store.journal store.base store.changes.items k
+
+-- These versions were read, whatever the device is: the cursor is past the entries of the changes that lead
+-- from the base to the newest, the root has the sizes, and each version from the base on is a valid zone that
+-- fits in a snapshot.
+pub record IsFoundSo (shape : Shape) (o : Opened) (next : Cursor) (root : Root) (base : Zone)
+    (changes : List Change) : Type 0 where
+  pub number_is : next.version ≡ length o.versions
+  pub left_is : next.until - next.at ≡ sectors_left (fresh shape o)
+  pub snapshot_room_is : root.snapshot_room ≡ shape.snapshot
+  pub journal_room_is : root.journal_room ≡ shape.journal
+  pub so_far : o.base ≤ length o.versions
+  pub base_is : base ≡ record { apex = shape.apex; records = base_of o }
+  pub base_fits : sectors_of_snapshot (base_of o) ≤ shape.snapshot
+  pub led : AreLed (base_of o) (drop o.base o.versions) changes
+  pub zones : AllZones shape.apex (drop o.base o.versions)
+  pub fit : AllFit shape.snapshot (drop o.base o.versions)
+
+-- The store holds in memory what was read, whatever the device is.
+abbrev pub HoldsFrom : {D I : Type 0} {g : Ghosts D} → Cursor → Root → Zone → List Change → KeptStore D I g
+    → Type 0
+HoldsFrom next root base changes store =
+    (shape : Shape) (o : Opened)
+    → IsFoundSo shape o next root base changes
+    → HoldsInMemory store.journal store.base store.changes.items (fresh shape o)
 
 -- If the device is honest, all on it is durable, and but for sectors that were altered it opens by the root
 -- as what is stored, with no head ahead of that, and the cursor is past the last entry, and the base and the

@@ -1,13 +1,14 @@
 //! A checkpoint: the base moves to a later version, and of the changes the newest alone are kept.
-ghost use Rattle.std.specs.Prelude.{◌≡◌, ◌⊎◌, ◌≤◌, ◌<◌, ◌-◌, ◌↔◌, ℕ, true, false, length, drop, min};
+ghost use Rattle.std.specs.Prelude.{◌≡◌, ◌⊎◌, ◌≤◌, ◌<◌, ◌-◌, ◌↔◌, ℕ, true, false, [], length, drop, min};
 ghost use Rattle.std.specs.Prelude.{sum_by, IfOk};
 ghost use Rattle.std.specs.Prelude.{OnOk, OnErr};
 ghost use Rattle.dns_names.specs.Name.{Labels};
 ghost use Rattle.dns_zone.specs.Records.{is_ordered};
 ghost use Rattle.dns_layout.specs.Sector.{snapshot_sectors as sectors_of_octets};
 ghost use Rattle.dns_journal.specs.State.{JournalLeavesOnly, device_of, is_closed, newest_number_of};
+ghost use Rattle.dns_journal.specs.State.{IsIdle, free_sectors};
 ghost use Rattle.dns_journal.specs.Reads.{HasRisen};
-ghost use Rattle.dns_journal.specs.Bank.{sectors_for, snapshot_room_of, journal_room_of};
+ghost use Rattle.dns_journal.specs.Bank.{sectors_for, snapshot_room_of, journal_room_of, StayRooms};
 ghost use Rattle.dns_store.specs.Versions.{Kept, newest_after, OpensAsEither, moved_to};
 ghost use Rattle.dns_store.specs.Versions.{closed_between};
 ghost use Rattle.dns_store.specs.Recovered.{GivenMemory};
@@ -83,7 +84,7 @@ impl From<ChangeError> for CheckpointError {
 }
 
 impl<D: Sectors, I: ZoneIndex> KeptStore<D, I> {
-    ghost use Rattle.dns_store.specs.Opening.{store_device, keeps, KeepsFlushed, StoreLeavesOnly};
+    ghost use Rattle.dns_store.specs.Opening.{store_device, keeps, StoreLeavesOnly};
     ghost use Rattle.dns_store.specs.Checkpoint.{IsKeptNumber};
 
     // Writes the new base's snapshot and the entries of the changes that are kept into the bank that isn't in
@@ -91,13 +92,14 @@ impl<D: Sectors, I: ZoneIndex> KeptStore<D, I> {
     // write.
     pub(crate) fn move_base(&mut self, keep: usize, room: usize) -> Result<(), CheckpointError>
         // A crash at any moment of it leaves the shown version, with the old base or the new one.
-        ensures any_moment { (k : Kept) (n : ℕ) → KeepsFlushed self.old k → IsKeptNumber k keep room n
+        ensures any_moment { (k : Kept) (n : ℕ) → keeps self.old k → D.is_honest (store_device self.old)
+            → k.staged ≡ [] → IsKeptNumber k keep room n
             → StoreLeavesOnly self.old self.new (OpensAsEither opens k (length k.shown - n)) }
-        ensures moved { (k : Kept) (n : ℕ) → KeepsFlushed self.old k → IsKeptNumber k keep room n
-            → OnOk result (KeepsFlushed self.new (moved_to (length k.shown - n) k)) }
-        ensures failed { (k : Kept) (n : ℕ) → KeepsFlushed self.old k → IsKeptNumber k keep room n
+        ensures moved { (k : Kept) (n : ℕ) → keeps self.old k → k.staged ≡ [] → IsKeptNumber k keep room n
+            → OnOk result (keeps self.new (moved_to (length k.shown - n) k)) }
+        ensures failed { (k : Kept) (n : ℕ) → keeps self.old k → k.staged ≡ [] → IsKeptNumber k keep room n
             → result ≡ Err CheckpointError.Device
-            → (k.closed ≡ false) × IsClosedBy self.new.journal (closed_between (length k.shown - n) k) }
+            → (k.closed ≡ false) × keeps self.new (closed_between (length k.shown - n) k) }
         ensures closed { (k : Kept) → keeps self.old k
             → result ≡ Err CheckpointError.Closed ↔ k.closed ≡ true }
         ensures device { result ≡ Err CheckpointError.Device
@@ -159,6 +161,15 @@ fn turn_bank<D: Sectors>(
     ensures quiet { OnOk result (D.failed (device_of journal.new) ≡ D.failed (device_of journal.old)) }
     ensures closed { is_closed journal.old ≡ true ↔ result ≡ Err TurnError.Closed }
     ensures stays { OnErr result ((result ≡ Err TurnError.Device) ⊎ (journal.new ≡ journal.old)) }
+    // What is in memory then, on any device.
+    ensures left { OnErr result (free_sectors journal.new ≡ free_sectors journal.old) }
+    ensures free { OnOk result
+        (free_sectors journal.new ≡ journal_room_of journal.old - sum_by sectors_for changes.now) }
+    ensures idle { OnOk result (IsIdle journal.old → IsIdle journal.new) }
+    ensures open { OnOk result (is_closed journal.new ≡ false) }
+    ensures closes { result ≡ Err TurnError.Device → is_closed journal.new ≡ true }
+    ensures rooms { StayRooms journal.old journal.new }
+    ensures newest { newest_number_of journal.new ≡ newest_number_of journal.old }
     ensures honest { D.is_honest (device_of journal.new) ↔ D.is_honest (device_of journal.old) }
 {
     match journal.turn(alloc, octets, changes) {

@@ -39,7 +39,7 @@ impl<D: Sectors + Drop, I: ZoneIndex> Drop for KeptStore<D, I> {
 
 impl<D: Sectors, I: ZoneIndex> KeptStore<D, I> {
     ghost use Rattle.dns_store.specs.Versions.{Kept, version_at};
-    ghost use Rattle.dns_store.specs.Opening.{KeepsFrom, store_device, keeps};
+    ghost use Rattle.dns_store.specs.Opening.{KeepsFrom, HoldsFrom, store_device, keeps};
     ghost use Rattle.dns_journal.specs.State.{newest_number_of};
 
     // The store of a device whose root was raised: it keeps what the device opens as.
@@ -62,6 +62,7 @@ impl<D: Sectors, I: ZoneIndex> KeptStore<D, I> {
         ensures changes { result.changes ≡ changes.entry }
         ensures newest { newest_number_of result.journal ≡ next.version }
         ensures keeps { KeepsFrom device next root base changes.entry.items result }
+        ensures memory { HoldsFrom next root base changes.entry.items result }
     {
         KeptStore {
             alloc,
@@ -97,7 +98,7 @@ impl<D: Sectors + Drop, I: ZoneIndex> ZoneStore for KeptStore<D, I> {
     ghost use Rattle.dns_journal.specs.State.{device_of};
     ghost use Rattle.dns_store.specs.Opens.{opens as opens_as};
     ghost use Rattle.dns_store.specs.Opening.{keeps as keeps_all};
-    ghost use Rattle.dns_store.specs.Laws.{at_rest_of, honest_of};
+    ghost use Rattle.dns_store.specs.Laws.{at_rest_of};
 
     ghost moment = { λ s. D.moment (device_of s.journal) };
 
@@ -106,6 +107,8 @@ impl<D: Sectors + Drop, I: ZoneIndex> ZoneStore for KeptStore<D, I> {
     ghost left_since = { λ s. D.left_since (device_of s.journal) };
 
     ghost failed = { λ s. D.failed (device_of s.journal) };
+
+    ghost is_honest = { λ s. D.is_honest (device_of s.journal) };
 
     ghost keeps = { λ s k. keeps_all s k };
 
@@ -168,14 +171,12 @@ impl<D: Sectors + Drop, I: ZoneIndex> ZoneStore for KeptStore<D, I> {
         }
     }
 
-    ghost some_left = { λ s k kept. (
-      D.seen (device_of s.journal),
-      D.seen_may_stay (device_of s.journal) (honest_of s.journal k k.closed kept.keeps),
-    ) };
+    ghost some_left = { λ s k kept honest.
+        (D.seen (device_of s.journal), D.seen_may_stay (device_of s.journal) honest) };
 
-    ghost counts_now = { λ s k t c kept earlier left.
-        D.counts_now (device_of s.journal) t c (honest_of s.journal k k.closed kept.keeps) earlier left };
+    ghost counts_now = { λ s k t c kept honest earlier left.
+        D.counts_now (device_of s.journal) t c honest earlier left };
 
-    ghost at_rest = { λ s k kept c left.
-        at_rest_of (λ d x honest now. D.only_now d x honest now) s.journal k k.closed kept.keeps c left };
+    ghost at_rest = { λ s k kept honest c left. at_rest_of (λ d x honest now. D.only_now d x honest now)
+        s.journal k k.closed (kept.keeps honest) c left };
 }

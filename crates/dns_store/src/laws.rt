@@ -12,8 +12,8 @@ use crate::{KeptStore, ZoneStore};
 use dns_sectors::Sectors;
 use dns_zone::ZoneIndex;
 
-/// The clock of a store on a device, what a crash may leave, now or since a moment, and how often it has
-/// failed are those of its device.
+/// The clock of a store on a device, what a crash may leave, now or since a moment, how often it has failed,
+/// and whether it is honest are those of its device.
 pub fn store_law<D: Sectors + Drop, I: ZoneIndex>()
     ensures moment { ⟦<KeptStore<D, I> as ZoneStore>⟧.moment ≡ (λ store. D.moment (store_device store)) }
     ensures may_leave { (store : _) (c : List (List ℕ)) → ⟦<KeptStore<D, I> as ZoneStore>⟧.may_leave store c
@@ -21,6 +21,8 @@ pub fn store_law<D: Sectors + Drop, I: ZoneIndex>()
     ensures left_since { (store : _) (t : ℕ) (c : List (List ℕ))
         → ⟦<KeptStore<D, I> as ZoneStore>⟧.left_since store t c ↔ D.left_since (store_device store) t c }
     ensures failed { ⟦<KeptStore<D, I> as ZoneStore>⟧.failed ≡ (λ store. D.failed (store_device store)) }
+    ensures honest { (store : _)
+        → ⟦<KeptStore<D, I> as ZoneStore>⟧.is_honest store ↔ D.is_honest (store_device store) }
 {}
 
 /// Every crash of a device leaves a store that opens, from a `format` or a `migrate` that succeeded on,
@@ -39,7 +41,7 @@ pub fn opens_law<D: Sectors + Drop, I: ZoneIndex>()
     ensures opening { (shape : Shape) (device : _) (c : List (List ℕ)) → MayOpen D.Sectors shape device
         → OpensAsPossible D.Sectors shape device c → (o : Opened) × opens shape o c }
     ensures kept { (store : _) (k : Kept) → ⟦<KeptStore<D, I> as ZoneStore>⟧.keeps store k
-        → MayOpen D.Sectors k.shape (store_device store) }
+        → D.is_honest (store_device store) → MayOpen D.Sectors k.shape (store_device store) }
     ensures migrating { (shape : Shape) (device : _) (c : List (List ℕ)) → MayMigrate D.Sectors shape device
         → MigratesAsPossible D.Sectors shape device c → (o : Opened) × opens_migrated shape o c }
 {}

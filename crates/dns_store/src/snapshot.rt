@@ -36,6 +36,7 @@ pub(crate) fn read_snapshot<D: Sectors>(
     // Of a part that is reached and is neither zeros nor its own it says so.
     ensures not_own { EachSpoiltPart D.Sectors format device.old root.now at
         (λ position. MatchResult result (λ _. ⊥) (IsThat position)) }
+    ensures len { IfOk result (λ octets. length octets.items ≤ root.now.snapshot_length) }
     ensures device { result ≡ Err ReadError.Device → HasRisen (D.failed device.old) (D.failed device.new) }
     ensures quiet { OnOk result (D.failed device.new ≡ D.failed device.old) }
     ensures reads { OnlyReads D.Sectors device.old device.new }

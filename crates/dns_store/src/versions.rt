@@ -7,6 +7,7 @@ ghost use Rattle.dns_changes.specs.Entry.{HasEntry, entry};
 ghost use Rattle.dns_journal.specs.Reads.{OnlyReads, HasRisen, TellsSpoilt};
 ghost use Rattle.dns_store.specs.Plain.{octets_of, sectors_of_snapshot_in};
 ghost use Rattle.dns_store.specs.Recovered.{EachJournal, GivenMemory, IsNewestRecovered};
+ghost use Rattle.dns_store.specs.Reading.{IsReadBy};
 ghost use Rattle.dns_store.specs.Root.{IsOfBank};
 ghost use Rattle.dns_store.specs.Damage.{NamesSector, NamesSpoiltIn, NamesWrongEntryIn, IsReachedEntryIn};
 ghost use Rattle.dns_store.specs.Damage.{EachStep, IfFits, RefusesJournal};
@@ -97,6 +98,8 @@ pub(crate) fn read_versions<D: Sectors, I: ZoneIndex>(
     requires until { cursor.old.until ≤ D.count device.old }
     requires at { cursor.old.at ≤ cursor.old.until }
     ensures within { cursor.new.at ≤ cursor.new.until }
+    ensures memory { IfOk result
+        (λ r. IsReadBy format cursor.old cursor.new base room r.0.records r.1.items) }
     ensures apex { IfOk result (λ r. r.0.apex ≡ base.apex) }
     ensures reads_all { EachJournal D.Sectors format device.old cursor.old base room (λ vs es.
         MatchResult result
@@ -116,6 +119,7 @@ pub(crate) fn read_versions<D: Sectors, I: ZoneIndex>(
     ensures quiet { OnOk result (D.failed device.new ≡ D.failed device.old) }
     ensures reads { OnlyReads D.Sectors device.old device.new }
 {
+    let _valid = base.apex();
     let mut zone = base;
     let mut len = snapshot_len(&zone);
     let mut changes = Vec::new(alloc);

@@ -5,7 +5,7 @@ use Rattle.dns_store.specs.Versions.{Kept}
 use Rattle.dns_zone.specs.Zone.{Zone}
 use Rattle.dns_versions.specs.declared.zone_versions.ZoneVersions.{ZoneVersions}
 use Rattle.dns_versions.specs.Held.{newer, newest_each}
-use Rattle.dns_versions.specs.Each.{Each3}
+use Rattle.dns_versions.specs.Each.{Each2, Each3}
 use Rattle.dns_versions.specs.Flush.{kept_after_flush, flushed_to, first_true, FailedWhere, IsCounted}
 
 pub get3 : {A B C : Type 0} (R : A → B → C → Type 0) (xs : List A) (ys : List B) (zs : List C) (i : ℕ) (d : A) (e : B) → Each3 R xs ys zs → i < length ys
@@ -33,6 +33,21 @@ pub diag : {A B C : Type 0} (R : A → B → C → Type 0) (Q : B → B → C �
 diag R Q [] [] [] each go = tt
 diag R Q (x ∷ xs) (y ∷ ys) (z ∷ zs) each go = (go x y z each.0, diag R Q xs ys zs each.1 go)
 diag R Q _ _ _ each go = absurd each
+
+pub map3 : {A B C : Type 0} (R Q : A → B → C → Type 0) (xs : List A) (ys : List B) (zs : List C) → ((a : A) (b : B) (c : C) → R a b c → Q a b c) → Each3 R xs ys zs → Each3 Q xs ys zs
+map3 R Q [] [] [] go each = tt
+map3 R Q (x ∷ xs) (y ∷ ys) (z ∷ zs) go each = (go x y z each.0, map3 R Q xs ys zs go each.1)
+map3 R Q _ _ _ go each = absurd each
+
+pub diag2 : {A : Type 0} (R : A → A → Type 0) (xs : List A) → ((a : A) → R a a) → Each2 R xs xs
+diag2 R [] go = tt
+diag2 R (x ∷ xs) go = (go x, diag2 R xs go)
+
+pub set2 : {A B : Type 0} (R : A → B → Type 0) (xs : List A) (ys : List B) (i : ℕ) (e new : B) → i < length ys → Each2 R xs ys → ((a : A) → R a (slice_index_or ys i e) → R a new) → Each2 R xs (slice_set ys i new)
+set2 R [] [] i e new lt each go = each
+set2 R (x ∷ xs) (y ∷ ys) zero e new lt each go = (go x each.0, each.1)
+set2 R (x ∷ xs) (y ∷ ys) (suc i) e new lt each go = (each.0, set2 R xs ys i e new (omega arith) each.1 go)
+set2 R _ _ i e new lt each go = absurd each
 
 pub long3 : {A B C : Type 0} (R : A → B → C → Type 0) (xs : List A) (ys : List B) (zs : List C) → Each3 R xs ys zs → length ys ≡ length zs
 long3 R [] [] [] each = refl

@@ -1,8 +1,8 @@
 //! The flush of zones: their stores are flushed, and what was staged is shown.
-ghost use Rattle.std.specs.Prelude.{◌≡◌, ◌<◌, List, ◌∷◌, [], ◌++◌, Bool, true, false, length};
+ghost use Rattle.std.specs.Prelude.{◌≡◌, ◌<◌, ◌↔◌, List, ◌∷◌, [], ◌++◌, Bool, true, false, length};
 ghost use Rattle.dns_sectors.specs.Device.{LeavesOnly};
 ghost use Rattle.dns_store.specs.Versions.{Kept, OpensAsLeft};
-ghost use Rattle.dns_versions.specs.Each.{Each3};
+ghost use Rattle.dns_versions.specs.Each.{Each2, Each3};
 ghost use Rattle.dns_versions.specs.Held.{AllHave, HasVersions, newer, newest_each};
 ghost use Rattle.dns_versions.specs.Flush.{AreFlushed, IsCounted, kept_after_flush, first_true};
 
@@ -16,10 +16,11 @@ impl<I: ZoneIndex, S: ZoneStore> ZoneVersions<I, S> {
     pub fn flush(&mut self, zone: &mut Zone<I>) -> bool
         ensures held { (k : Kept) → HasVersions S.keeps zone.old self.old k
             → HasVersions S.keeps zone.new self.new (kept_after_flush result k) }
-        // A crash at any moment of it leaves a device that opens as the versions shown and some of those
-        // staged.
-        ensures any_moment { (k : Kept) → S.keeps self.old.store k
+        // A crash at any moment of it leaves an honest device that opens as the versions shown and some of
+        // those staged.
+        ensures any_moment { (k : Kept) → S.keeps self.old.store k → S.is_honest self.old.store
             → LeavesOnly S.moment S.left_since self.old.store self.new.store (OpensAsLeft S.opens k) }
+        ensures honest { S.is_honest self.new.store ↔ S.is_honest self.old.store }
         ensures failed { IsCounted result (S.failed self.old.store) (S.failed self.new.store) }
         ensures open { (k : Kept) → HasVersions S.keeps zone.old self.old k
             → result ≡ true → k.closed ≡ false }
@@ -59,8 +60,10 @@ pub fn flush_all<I: ZoneIndex, S: ZoneStore>(
     ensures held { (ks : List Kept) → AllHave S.keeps zones.old pending.old ks
         → AreFlushed S.keeps S.failed ks zones.new pending.old pending.new result }
     ensures any_moment { (ks : List Kept) → AllHave S.keeps zones.old pending.old ks
-        → Each3 (λ a b k. LeavesOnly S.moment S.left_since a.store b.store (OpensAsLeft S.opens k))
+        → Each3 (λ a b k. S.is_honest a.store
+        → LeavesOnly S.moment S.left_since a.store b.store (OpensAsLeft S.opens k))
         pending.old pending.new ks }
+    ensures honest { Each2 (λ a b. S.is_honest b.store ↔ S.is_honest a.store) pending.old pending.new }
     ensures newest { newest_each zones.new pending.new ≡ newest_each zones.old pending.old }
 {
     let mut first = None;

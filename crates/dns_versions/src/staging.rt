@@ -1,6 +1,6 @@
 //! Changes that are staged after a zone's newest version: whether there is room for one, what room it lacks,
 //! and its staging.
-ghost use Rattle.std.specs.Prelude.{◌≡◌, ◌≤◌, true, length, None, IfOk, IfSome, OnOk, OnErr};
+ghost use Rattle.std.specs.Prelude.{◌≡◌, ◌≤◌, ◌↔◌, true, length, None, IfOk, IfSome, OnOk, OnErr};
 ghost use Rattle.dns_zone.specs.Zone.{Zone as Stated, zone_fault};
 ghost use Rattle.dns_changes.specs.Change.{IsChange};
 ghost use Rattle.dns_changes.specs.Version.{IsVersionAfter};
@@ -161,6 +161,7 @@ impl<I: ZoneIndex, S: ZoneStore> ZoneVersions<I, S> {
             → HasRoomBy k plan.version.records result }
         ensures still { StandsStill S.moment S.left_since self.old.store self.new.store }
         ensures quiet { S.failed self.new.store ≡ S.failed self.old.store }
+        ensures honest { S.is_honest self.new.store ↔ S.is_honest self.old.store }
     {
         let (entry, version, octets) = plan.into_parts();
         let _valid = version.apex();

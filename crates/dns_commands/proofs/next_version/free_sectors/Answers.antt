@@ -22,7 +22,7 @@ returns-in-Ok-clause-made g c k records kept rests has e =
     (base, for, c.in-Ok.ensures.moved k d.0 kept rests.none_staged d.1, left)
 
 pub returns-in-Ok-clause-any_moment : goal.returns-in-Ok-clause-any_moment
-returns-in-Ok-clause-any_moment g c k records kept rests has e =
+returns-in-Ok-clause-any_moment g c k records kept honest rests has e =
     let z = g.S.ZoneStore in
     let keep = c.args.keep in
     let room = c.in-Some.room in
@@ -32,10 +32,10 @@ returns-in-Ok-clause-any_moment g c k records kept rests has e =
     let less : sectors_left k < room = subst (λ n. sectors_left k < n) (sym lacks.0) lacks.1 in
     let for : IsBaseFor keep (entry_between (newest_of k) records) k base = subst (λ n. IsBaseFor keep n k base) lacks.0 (inr (less, (d.0, d.1, refl))) in
     weaker z.moment z.left_since c.args.store.now c.checkpoint.new.self (OpensAsEither z.opens k base) (OpensAsMoved z.opens keep (entry_between (newest_of k) records) k)
-    (c.checkpoint.ensures.any_moment k d.0 kept rests.none_staged d.1) (λ x left. ⊎_elim (λ before. inl before) (λ after. inr (base, for, after)) left)
+    (c.checkpoint.ensures.any_moment k d.0 kept honest rests.none_staged d.1) (λ x left. ⊎_elim (λ before. inl before) (λ after. inr (base, for, after)) left)
 
 pub returns-in-Err-Device-clause-any_moment : goal.returns-in-Err-Device-clause-any_moment
-returns-in-Err-Device-clause-any_moment g c k records kept rests has e =
+returns-in-Err-Device-clause-any_moment g c k records kept honest rests has e =
     let z = g.S.ZoneStore in
     let keep = c.args.keep in
     let room = c.in-Some.room in
@@ -45,4 +45,4 @@ returns-in-Err-Device-clause-any_moment g c k records kept rests has e =
     let less : sectors_left k < room = subst (λ n. sectors_left k < n) (sym lacks.0) lacks.1 in
     let for : IsBaseFor keep (entry_between (newest_of k) records) k base = subst (λ n. IsBaseFor keep n k base) lacks.0 (inr (less, (d.0, d.1, refl))) in
     weaker z.moment z.left_since c.args.store.now c.checkpoint.new.self (OpensAsEither z.opens k base) (OpensAsMoved z.opens keep (entry_between (newest_of k) records) k)
-    (c.checkpoint.ensures.any_moment k d.0 kept rests.none_staged d.1) (λ x left. ⊎_elim (λ before. inl before) (λ after. inr (base, for, after)) left)
+    (c.checkpoint.ensures.any_moment k d.0 kept honest rests.none_staged d.1) (λ x left. ⊎_elim (λ before. inl before) (λ after. inr (base, for, after)) left)

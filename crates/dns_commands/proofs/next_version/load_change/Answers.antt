@@ -30,12 +30,12 @@ returns-in-Err-clause-loaded g c k held rests =
     plan_refused (z.keeps b.store) (z.failed b.store) (z.failed b.store) c.args.keep records k c.in-Err.fault there.0 there.1 held.kept (c.in-Err.ensures.room k held)
 
 pub returns-in-Err-clause-any_moment : goal.returns-in-Err-clause-any_moment
-returns-in-Err-clause-any_moment g c k held rests =
+returns-in-Err-clause-any_moment g c k held honest rests =
     let z = g.S.ZoneStore in
     let records = c.args.zone.now.records in
     let shown = c.args.shown.now in
     let b = c.args.versions.now in
-    started z.moment z.left_since b.store (OpensAsLoading z.opens c.args.keep records k) (λ x left. inl (g.met.S.ZoneStore.at_rest b.store k held.kept x left))
+    started z.moment z.left_since b.store (OpensAsLoading z.opens c.args.keep records k) (λ x left. inl (g.met.S.ZoneStore.at_rest b.store k held.kept honest x left))
 
 pub returns-in-Err-free_sectors-clause-loaded : goal.returns-in-Err-free_sectors-clause-loaded
 returns-in-Err-free_sectors-clause-loaded g c k held rests =
@@ -53,7 +53,7 @@ returns-in-Err-free_sectors-clause-loaded g c k held rests =
     room_refused (z.keeps c.free_sectors.new.store) (z.failed b.store) (z.failed c.free_sectors.new.store) c.args.keep (entry_between (newest_of k) records) records k c.in-Err-free_sectors.fault (c.in-Err-free_sectors.ensures.made k records held.kept rests has lacked)
 
 pub returns-in-Err-free_sectors-clause-any_moment : goal.returns-in-Err-free_sectors-clause-any_moment
-returns-in-Err-free_sectors-clause-any_moment g c k held rests =
+returns-in-Err-free_sectors-clause-any_moment g c k held honest rests =
     let z = g.S.ZoneStore in
     let records = c.args.zone.now.records in
     let shown = c.args.shown.now in
@@ -66,7 +66,7 @@ returns-in-Err-free_sectors-clause-any_moment g c k held rests =
     let has : has_room k records ≡ true = subst (λ (rs : List Record). has_room k rs ≡ true) own.0 room.room in
     let lacked : c.lacked-lacked.result ≡ sectors_lacked k records = c.lacked-lacked.ensures k held.kept (subst (λ (s : Zone). IsPlan s p.version.records p) newest own.1) room ∙ ap (sectors_lacked k) own.0 in
     let before = b.store in
-    let first = weaker z.moment z.left_since before c.free_sectors.new.store (OpensAsMoved z.opens c.args.keep (entry_between (newest_of k) records) k) (OpensAsLoading z.opens c.args.keep records k) (c.free_sectors.ensures.any_moment k records held.kept rests has lacked) (λ x left. moved_loading z.opens c.args.keep (entry_between (newest_of k) records) records k x rests.none_staged refl there.1 has left) in
+    let first = weaker z.moment z.left_since before c.free_sectors.new.store (OpensAsMoved z.opens c.args.keep (entry_between (newest_of k) records) k) (OpensAsLoading z.opens c.args.keep records k) (c.free_sectors.ensures.any_moment k records held.kept honest rests has lacked) (λ x left. moved_loading z.opens c.args.keep (entry_between (newest_of k) records) records k x rests.none_staged refl there.1 has left) in
     first
 
 pub returns-in-Ok-store_plan-clause-loaded : goal.returns-in-Ok-store_plan-clause-loaded
@@ -105,7 +105,7 @@ returns-in-Ok-store_plan-clause-loaded g c k held rests =
     }
 
 pub returns-in-Ok-store_plan-clause-any_moment : goal.returns-in-Ok-store_plan-clause-any_moment
-returns-in-Ok-store_plan-clause-any_moment g c k held rests =
+returns-in-Ok-store_plan-clause-any_moment g c k held honest rests =
     let z = g.S.ZoneStore in
     let records = c.args.zone.now.records in
     let shown = c.args.shown.now in
@@ -125,9 +125,9 @@ returns-in-Ok-store_plan-clause-any_moment g c k held rests =
     let room_mid : HasPlanRoom moved p = record { room = room.room; octets = room.octets } in
     let rests_mid : IsAtRest moved = record { none_staged = rests.none_staged; not_closed = rests.not_closed } in
     let before = b.store in
-    let first = weaker z.moment z.left_since before c.free_sectors.new.store (OpensAsMoved z.opens c.args.keep (entry_between (newest_of k) records) k) (OpensAsLoading z.opens c.args.keep records k) (c.free_sectors.ensures.any_moment k records held.kept rests has lacked) (λ x left. moved_loading z.opens c.args.keep (entry_between (newest_of k) records) records k x rests.none_staged refl there.1 has left) in
+    let first = weaker z.moment z.left_since before c.free_sectors.new.store (OpensAsMoved z.opens c.args.keep (entry_between (newest_of k) records) k) (OpensAsLoading z.opens c.args.keep records k) (c.free_sectors.ensures.any_moment k records held.kept honest rests has lacked) (λ x left. moved_loading z.opens c.args.keep (entry_between (newest_of k) records) records k x rests.none_staged refl there.1 has left) in
     joined z.moment z.left_since before mid c.store_plan.new.versions.store (OpensAsLoading z.opens c.args.keep records k) (OpensAsLeft z.opens (staged_with p.version.records moved)) first
-    (c.store_plan.ensures.any_moment moved held_mid rests_mid room_mid) (λ x left. inr (base, made.1, there.1, has, subst (λ (rs : List Record). OpensAsLeft z.opens (staged_with rs moved) x) own.0 left))
+    (c.store_plan.ensures.any_moment moved held_mid (c.free_sectors.ensures.honest.1 honest) rests_mid room_mid) (λ x left. inr (base, made.1, there.1, has, subst (λ (rs : List Record). OpensAsLeft z.opens (staged_with rs moved) x) own.0 left))
 
 pub returns-in-Err-store_plan-clause-loaded : goal.returns-in-Err-store_plan-clause-loaded
 returns-in-Err-store_plan-clause-loaded g c k held rests =
@@ -158,7 +158,7 @@ returns-in-Err-store_plan-clause-loaded g c k held rests =
     store_refused (z.keeps after) (z.failed b.store) (z.failed after) c.args.keep base records k fault made.1 failed
 
 pub returns-in-Err-store_plan-clause-any_moment : goal.returns-in-Err-store_plan-clause-any_moment
-returns-in-Err-store_plan-clause-any_moment g c k held rests =
+returns-in-Err-store_plan-clause-any_moment g c k held honest rests =
     let z = g.S.ZoneStore in
     let records = c.args.zone.now.records in
     let shown = c.args.shown.now in
@@ -178,6 +178,6 @@ returns-in-Err-store_plan-clause-any_moment g c k held rests =
     let room_mid : HasPlanRoom moved p = record { room = room.room; octets = room.octets } in
     let rests_mid : IsAtRest moved = record { none_staged = rests.none_staged; not_closed = rests.not_closed } in
     let before = b.store in
-    let first = weaker z.moment z.left_since before c.free_sectors.new.store (OpensAsMoved z.opens c.args.keep (entry_between (newest_of k) records) k) (OpensAsLoading z.opens c.args.keep records k) (c.free_sectors.ensures.any_moment k records held.kept rests has lacked) (λ x left. moved_loading z.opens c.args.keep (entry_between (newest_of k) records) records k x rests.none_staged refl there.1 has left) in
+    let first = weaker z.moment z.left_since before c.free_sectors.new.store (OpensAsMoved z.opens c.args.keep (entry_between (newest_of k) records) k) (OpensAsLoading z.opens c.args.keep records k) (c.free_sectors.ensures.any_moment k records held.kept honest rests has lacked) (λ x left. moved_loading z.opens c.args.keep (entry_between (newest_of k) records) records k x rests.none_staged refl there.1 has left) in
     joined z.moment z.left_since before mid c.store_plan.new.versions.store (OpensAsLoading z.opens c.args.keep records k) (OpensAsLeft z.opens (staged_with p.version.records moved)) first
-    (c.store_plan.ensures.any_moment moved held_mid rests_mid room_mid) (λ x left. inr (base, made.1, there.1, has, subst (λ (rs : List Record). OpensAsLeft z.opens (staged_with rs moved) x) own.0 left))
+    (c.store_plan.ensures.any_moment moved held_mid (c.free_sectors.ensures.honest.1 honest) rests_mid room_mid) (λ x left. inr (base, made.1, there.1, has, subst (λ (rs : List Record). OpensAsLeft z.opens (staged_with rs moved) x) own.0 left))

@@ -21,12 +21,12 @@ returns-in-Ok-None-clause-loaded g c k held rests =
     (same ∙ newest, held.kept)
 
 pub returns-in-Ok-None-clause-any_moment : goal.returns-in-Ok-None-clause-any_moment
-returns-in-Ok-None-clause-any_moment g c k held rests =
+returns-in-Ok-None-clause-any_moment g c k held honest rests =
     let z = g.S.ZoneStore in
     let records = c.args.zone.now.records in
     let shown = c.args.shown.now in
     let b = c.args.versions.now in
-    started z.moment z.left_since b.store (OpensAsLoading z.opens c.args.keep records k) (λ x left. inl (g.met.S.ZoneStore.at_rest b.store k held.kept x left))
+    started z.moment z.left_since b.store (OpensAsLoading z.opens c.args.keep records k) (λ x left. inl (g.met.S.ZoneStore.at_rest b.store k held.kept honest x left))
 
 pub returns-in-Err-clause-loaded : goal.returns-in-Err-clause-loaded
 returns-in-Err-clause-loaded g c k held rests =
@@ -38,9 +38,9 @@ returns-in-Err-clause-loaded g c k held rests =
     change_refused (z.keeps b.store) (z.failed b.store) (z.failed b.store) c.args.keep shown.records records k c.in-Err.fault newest held.kept c.in-Err.ensures
 
 pub returns-in-Err-clause-any_moment : goal.returns-in-Err-clause-any_moment
-returns-in-Err-clause-any_moment g c k held rests =
+returns-in-Err-clause-any_moment g c k held honest rests =
     let z = g.S.ZoneStore in
     let records = c.args.zone.now.records in
     let shown = c.args.shown.now in
     let b = c.args.versions.now in
-    started z.moment z.left_since b.store (OpensAsLoading z.opens c.args.keep records k) (λ x left. inl (g.met.S.ZoneStore.at_rest b.store k held.kept x left))
+    started z.moment z.left_since b.store (OpensAsLoading z.opens c.args.keep records k) (λ x left. inl (g.met.S.ZoneStore.at_rest b.store k held.kept honest x left))

@@ -33,9 +33,9 @@ returns-in-Ok g c =
               t.1,
               λ o h.
                   (let taken = t.2 o h in
-                  let into = c.take_file-store.ensures (fresh (own_shape own) (opened_again o)) taken.keeps_them (record { shape_is = refl; rests = record { none_staged = refl; not_closed = refl }; newest_is = taken.newest_is }) in
-                  loaded_zone g.D.Sectors own zone.records is.device c.in-Ok.store new loaded o (is.any_moment honest range) is.quiet into.0
-                  (record { later = (into.1).later; each = (into.1).each; before = (into.1).before })),
+                  let into = c.take_file-store.ensures.1 (fresh (own_shape own) (opened_again o)) taken.keeps_them (record { shape_is = refl; rests = record { none_staged = refl; not_closed = refl }; newest_is = taken.newest_is }) in
+                  loaded_zone g.D.Sectors own zone.records is.device c.in-Ok.store new loaded o (is.any_moment honest range) is.quiet (c.take_file-store.ensures.0.1 (is.honest.1 honest)) into.0
+                  (let left = into.1 (is.honest.1 honest) in record { later = left.later; each = left.each; before = left.before })),
             ));
       }),
     )

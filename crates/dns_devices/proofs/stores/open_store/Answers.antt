@@ -14,6 +14,7 @@ returns-in-Ok g c = (
     altered = c.in-Ok.ensures.altered;
     taken = c.in-Ok.ensures.opened;
     any_moment = c.in-Ok.ensures.any_moment;
+    honest = c.in-Ok.ensures.honest;
     quiet = c.in-Ok.ensures.quiet;
   },
 )

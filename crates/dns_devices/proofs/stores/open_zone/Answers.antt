@@ -25,7 +25,7 @@ returns-in-Ok g c =
         intact = is.intact;
         altered = λ honest range x o is_opened none altered. (is.altered honest range x o is_opened none altered).newest_is;
         newest = λ honest range may. let t = is.taken honest range may in
-            (t.0, t.1, λ o h. ((t.2 o h).newest_is, leaves_kept g.D.Sectors store (fresh (own_shape own) (opened_again o)) (t.2 o h).keeps_them));
+            (t.0, t.1, λ o h. ((t.2 o h).newest_is, leaves_kept g.D.Sectors store (fresh (own_shape own) (opened_again o)) (t.2 o h).keeps_them (is.honest.1 honest)));
         any_moment = is.any_moment;
       },
     )

@@ -4,7 +4,7 @@ use Rattle.dns_sectors.specs.declared.phase.SectorWrite.{SectorWrite}
 use Rattle.dns_layout.specs.Sector.{snapshot_sectors}
 use Rattle.dns_layout.specs.Store.{Sizes, other_of}
 use Rattle.dns_journal.specs.Bank.{PushesParts}
-use Rattle.dns_journal.proofs.Laying.{entries_end, entries_count, versions_count, bank_ends, other_small, lays}
+use Rattle.dns_journal.proofs.Laying.{entries_end, entries_count, entries_behind, versions_count, bank_ends, other_small, lays}
 use Rattle.dns_layout.specs.Forms.{bank_number}
 use Rattle.dns_journal.proofs.turn.write_bank.Goals as goal
 
@@ -19,6 +19,7 @@ returns-clause-next c =
       omega (arith, p.position, p.until_stays, entries_end p.entries (start + j) start c.args.base c.args.root.now.open_count (omega arith) p.batch),
       omega (arith, p.until_stays, end),
       p.version_is ∙ versions_count p.entries c.args.base ∙ ap (λ n. c.args.base + n) (entries_count c.args.changes.now p.entries p.are),
+      omega (arith, p.position, p.until_stays, entries_behind c.args.changes.now p.entries start p.are),
     )
 
 pub returns-clause-laid : goal.returns-clause-laid

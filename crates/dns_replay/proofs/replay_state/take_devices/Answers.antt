@@ -4,7 +4,7 @@ use Rattle.dns_replay.proofs.replay_state.take_devices.Goals as goal
 
 pub returns-in_ok-left-in-Some-clause-recoverable : goal.returns-in_ok-left-in-Some-clause-recoverable
 returns-in_ok-left-in-Some-clause-recoverable g c =
-    taken_running c.args.primary.now c.in-Some.running c.args.devices.now.items c.in_ok-left-in-Some.left.items (sym c.take.ensures.value ∙ c.in-Some.is) c.in_ok-left-in-Some.ensures.at_rest
+    taken_running c.args.primary.now c.in-Some.running c.args.devices.now.items c.in_ok-left-in-Some.left.items (sym c.take.ensures.value ∙ c.in-Some.is) c.in_ok-left-in-Some.ensures.handed_out c.in_ok-left-in-Some.ensures.at_rest
 
 pub returns-in-None-clause-recoverable : goal.returns-in-None-clause-recoverable
 returns-in-None-clause-recoverable g c =

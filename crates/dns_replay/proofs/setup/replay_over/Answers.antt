@@ -16,4 +16,4 @@ open-requires-clause-named g c =
 
 pub returns-in-Ok : goal.returns-in-Ok
 returns-in-Ok g c = λ not.
-    runs_from g.D.ScriptDevice.left_by c.args.zones.now c.args.world.settings.now c.args.again.items c.args.world.origins.now c.args.devices.items c.in-Ok.primary (lines c.args.script.now) c.run_script.result (g.W.Write.contents c.args.out.now) (g.W.Write.contents c.run_script.new.out) c.requires.named c.requires.same c.requires.made c.in-Ok.ensures.recovered (c.run_script.ensures not)
+    runs_from g.D.ScriptDevice.left_by c.args.zones.now c.args.world.settings.now c.args.again.items c.args.world.origins.now c.args.devices.items c.in-Ok.primary (lines c.args.script.now) c.run_script.result (g.W.Write.contents c.args.out.now) (g.W.Write.contents c.run_script.new.out) c.requires.named c.requires.same c.requires.made c.in-Ok.ensures.recovered c.in-Ok.ensures.honest (c.run_script.ensures not)

@@ -32,10 +32,10 @@ returns-in-Ok-open g c =
         known = c.in-Ok.settings.items;
         settings = c.in-Ok.ensures;
         intact = intact;
-        recovered = λ m event tries are.
+        recovered = λ m event tries are honest.
             (let given = subst (λ (names : List Labels). AreRecoverable g.D.Sectors tries m event 0 m.zones names c.in-Ok.settings.items c.in-Ok-open_devices.given.items) (sym c.requires) are in
-            let to = c.in-Ok-open.ensures.recovered m event tries given in
-            (to.0, to.1, (to.2, c.in-Ok-open.ensures.any_moment m event tries (whichever_set g.D.Sectors tries m event 0 m.zones c.args.origins.now c.in-Ok.settings.items c.in-Ok-open_devices.given.items given))));
+            let to = (c.in-Ok-open.ensures.recovered m event tries given).1 honest in
+            (to.0, to.1, (to.2, c.in-Ok-open.ensures.honest, c.in-Ok-open.ensures.any_moment m event tries (whichever_set g.D.Sectors tries m event 0 m.zones c.args.origins.now c.in-Ok.settings.items c.in-Ok-open_devices.given.items given))));
       },
     )
 

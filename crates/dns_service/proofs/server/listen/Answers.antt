@@ -29,16 +29,16 @@ returns-then-is_written-clause-ended g c =
     )
 
 pub returns-in_err-tell_unavailable-in-Err-clause-run : goal.returns-in_err-tell_unavailable-in-Err-clause-run
-returns-in_err-tell_unavailable-in-Err-clause-run g c = none_run (λ x k kept z left. g.met.S.ZoneStore.at_rest x k kept z left) _
+returns-in_err-tell_unavailable-in-Err-clause-run g c = none_run (λ x k kept honest z left. g.met.S.ZoneStore.at_rest x k kept honest z left) _
 
 pub returns-in-Err-clause-run : goal.returns-in-Err-clause-run
-returns-in-Err-clause-run g c = none_run (λ x k kept z left. g.met.S.ZoneStore.at_rest x k kept z left) _
+returns-in-Err-clause-run g c = none_run (λ x k kept honest z left. g.met.S.ZoneStore.at_rest x k kept honest z left) _
 
 pub returns-in_err-tell_listening-clause-run : goal.returns-in_err-tell_listening-clause-run
-returns-in_err-tell_listening-clause-run g c = none_run (λ x k kept z left. g.met.S.ZoneStore.at_rest x k kept z left) _
+returns-in_err-tell_listening-clause-run g c = none_run (λ x k kept honest z left. g.met.S.ZoneStore.at_rest x k kept honest z left) _
 
 pub returns-in_err-resize-clause-run : goal.returns-in_err-resize-clause-run
-returns-in_err-resize-clause-run g c = none_run (λ x k kept z left. g.met.S.ZoneStore.at_rest x k kept z left) _
+returns-in_err-resize-clause-run g c = none_run (λ x k kept honest z left. g.met.S.ZoneStore.at_rest x k kept honest z left) _
 
 pub returns-in_err-resize-2-clause-run : goal.returns-in_err-resize-2-clause-run
-returns-in_err-resize-2-clause-run g c = none_run (λ x k kept z left. g.met.S.ZoneStore.at_rest x k kept z left) _
+returns-in_err-resize-2-clause-run g c = none_run (λ x k kept honest z left. g.met.S.ZoneStore.at_rest x k kept honest z left) _

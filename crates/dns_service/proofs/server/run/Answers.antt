@@ -59,4 +59,4 @@ returns-clause-counted g c = λ is.
     let whole : c.loop-turn.turn ≡ c.args.service.now.turns = omega (arith, c.loop-turn-test.false, c.loop-turn.auto.turn-end) in
     subst (λ (count : ℕ). IsCountedOn g.S.Stream g.N.Network g.L.Observer c.args.counts.now.every c.args.counts.now.origins.now count c.args.primary.now c.args.network.now c.args.notes.now (g.L.Watched.counting c.args.notes.now)
     (g.O.Write.contents c.args.counts.now.out.now) c.loop-turn.primary c.loop-turn.network c.loop-turn.notes (g.O.Write.contents c.loop-turn.counts.out.now)) whole
-    (counted_on {d = g.D.ZoneStore} g.S.Stream g.N.Network g.L.Observer g.L.Watched.counting c.args.counts.now.every c.args.counts.now.origins.now (λ x k kept z left. g.met.D.ZoneStore.at_rest x k kept z left) g.met.L.Watched.notes_counted g.met.L.Watched.events_counted _ _ _ _ _ _ _ _ _ _ (inv.4 is))
+    (counted_on {d = g.D.ZoneStore} g.S.Stream g.N.Network g.L.Observer g.L.Watched.counting c.args.counts.now.every c.args.counts.now.origins.now (λ x k kept honest z left. g.met.D.ZoneStore.at_rest x k kept honest z left) g.met.L.Watched.notes_counted g.met.L.Watched.events_counted _ _ _ _ _ _ _ _ _ _ (inv.4 is))

@@ -14,10 +14,10 @@ together : {A B : Type 0} {a c : A} {b d : B} → (a ≡ c) × (b ≡ d) → ◌
 together is = λ i. (is.0 i, is.1 i)
 
 pub returns-in_err-is_told-clause-run : goal.returns-in_err-is_told-clause-run
-returns-in_err-is_told-clause-run g c = rw c.in_err-is_told.ensures.served (none_run (λ x k kept z left. g.met.D.ZoneStore.at_rest x k kept z left) _)
+returns-in_err-is_told-clause-run g c = rw c.in_err-is_told.ensures.served (none_run (λ x k kept honest z left. g.met.D.ZoneStore.at_rest x k kept honest z left) _)
 
 pub returns-clause-run : goal.returns-clause-run
-returns-clause-run g c = has_run (λ x k kept z left. g.met.D.ZoneStore.at_rest x k kept z left) c.in_ok-is_told.ensures.served
+returns-clause-run g c = has_run (λ x k kept honest z left. g.met.D.ZoneStore.at_rest x k kept honest z left) c.in_ok-is_told.ensures.served
 
 pub returns-clause-told : goal.returns-clause-told
 returns-clause-told g c = λ is begins.
@@ -39,7 +39,7 @@ returns-clause-told g c = λ is begins.
     let started : (m : Machine) → IsKept c.args.primary.now m → HasScripted l (first_said (comments m)) [] (fresh_recording wanted script) (state begun) c.args.log.now begun.notes.now =
     λ m kept. subst (λ x. HasScripted l (first_said (comments m)) [] (fresh_recording wanted script) (state begun) x begun.notes.now) made.ensures.notes
     (subst (λ (x : Recording). HasScripted l (record { text = comments m; stirred = x.stirred }) [] x (state begun) made.result.notes.now begun.notes.now) made.ensures.fresh (c.write_start.ensures.said m kept)) in
-    has_recorded (λ x k kept z left. g.met.D.ZoneStore.at_rest x k kept z left) counted.served (λ turns m. AreCountsOf every origins m turns (text c.args.counts.now.out.now) (text c.run.new.counts.out.now))
+    has_recorded (λ x k kept honest z left. g.met.D.ZoneStore.at_rest x k kept honest z left) counted.served (λ turns m. AreCountsOf every origins m turns (text c.args.counts.now.out.now) (text c.run.new.counts.out.now))
     (λ m kept. counted.counts (still_begins every (g.L.Watched.counting c.args.log.now) (g.L.Watched.counting begun.notes.now)
     (start_counted l g.L.Watched.counting g.met.L.Watched.notes_counted _ _ c.args.log.now begun.notes.now (started m kept).handed) begins) m kept)
     mark state behind (λ x one y h. (together h.0, h.1)) (λ x event effects y h. (together h.0, h.1))

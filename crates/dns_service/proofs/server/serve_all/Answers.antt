@@ -46,7 +46,7 @@ returns-in-Ok-open_primary g c =
     let ran = c.serve_as-status.ensures.run in
     let keeps : Machine → Type 0 = λ m. IsKept primary m in
     let zones = configuration.zones.items in
-    let there : (start : Machine) (run : List Moment) (x y : KeptStore _ _ g.D.Sectors) (index : ℕ) → _ = λ start run x y index h. record { later = h.later; each = h.each; before = h.before } in (
+    let there : (start : Machine) (run : List Moment) (x y : KeptStore _ _ g.D.Sectors) (index : ℕ) → _ = λ start run x y index h. (h.0, λ honest. let left = h.1 honest in record { later = left.later; each = left.each; before = left.before }) in (
       _,
       called_on _ _ _ _ _ c.in-Ok-open_primary.ensures.1 (rw closed.2.0 at closed.1),
       served g.D.Sectors _ c.args.config.now configuration c.args.options before told c.serve_as-status.result c.in-Ok.ensures.held

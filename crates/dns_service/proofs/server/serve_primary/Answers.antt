@@ -15,4 +15,4 @@ returns-clause-ended g c =
     c.in_ok-tell_zones.ensures c.listen.ensures.ended
 
 pub returns-in_err-tell_zones-clause-run : goal.returns-in_err-tell_zones-clause-run
-returns-in_err-tell_zones-clause-run g c = none_run (λ x k kept z left. g.met.S.ZoneStore.at_rest x k kept z left) _
+returns-in_err-tell_zones-clause-run g c = none_run (λ x k kept honest z left. g.met.S.ZoneStore.at_rest x k kept honest z left) _

@@ -12,8 +12,8 @@ returns g c = record {
   opening = λ shape device content may possible.
       (let held = may possible.0 possible.1 in
       ⊎_elim (λ same. (held.0, same)) (λ again. (opened_again held.0, again)) (possible.2 held.0 held.1));
-  kept = λ store k kept content left.
-      (let opened = kept_opens store.journal k k.closed kept.keeps content left in (opened.0, opened.2));
+  kept = λ store k kept honest content left.
+      (let opened = kept_opens store.journal k k.closed (kept.keeps honest) content left in (opened.0, opened.2));
   migrating = λ shape device content may possible.
       (let held = may possible.0 possible.1 in (held.0, possible.2 held.0 held.1));
 }

@@ -1,9 +1,13 @@
-use Rattle.std.proofs.Common.{inl, inr, ⊎_elim, refl, ◌+◌, drop, sym, ◌∙◌, ap, subst}
+use Rattle.std.proofs.Common.{inl, inr, ⊎_elim, refl, ◌≡◌, ◌+◌, List, drop, arith, sym, ◌∙◌, ap, subst}
 use Rattle.dns_sectors.specs.Device.{Only, LeavesOnly}
 use Rattle.dns_layout.specs.Sector.{sector_at}
 use Rattle.dns_layout.specs.Journal.{place_behind}
 use Rattle.dns_layout.specs.Store.{journal_place, bank_end, version_of}
-use Rattle.dns_store.specs.Versions.{Shape, opened_again}
+use Rattle.dns_records.specs.Record.{Record}
+use Rattle.dns_zone.specs.Zone.{Zone}
+use Rattle.dns_layout.specs.declared.root.Root.{Root}
+use Rattle.dns_store.specs.Versions.{Shape, newest_after, opened_again}
+use Rattle.dns_store.proofs.InMemory.{found_so}
 use Rattle.dns_store.specs.Opens.{base_of, sizes_of}
 use Rattle.dns_store.specs.Recovered.{AreLed}
 use Rattle.dns_store.specs.Opening.{OpensAsPossible, IsNotReopened}
@@ -70,6 +74,29 @@ returns-clause-opened g c honest range may =
           (λ i. record { apex = c.in-Ok.ensures.apex.0 i; records = read.base_is i }) read.led in
           record { keeps_them = keeps; newest_is = λ i. record { apex = c.in-Ok.ensures.apex.1 i; records = read.newest_is i } }),
     )
+
+pub returns-clause-memory : goal.returns-clause-memory
+returns-clause-memory g c =
+    let shape : Shape = record { apex = c.args.apex.now; snapshot = c.args.snapshot; journal = c.args.journal } in
+    let store = c.over-store.result in
+    let so = c.in-Ok.ensures.memory in
+    let reads = so.reads in
+    let bases = c.over-store.ensures.base in
+    let records : c.over-store.result.base.records ≡ c.in-Ok.found.base.records = ap (λ (z : Zone). z.records) bases in
+    let number = c.over-store.ensures.newest in
+    let roots = c.raise_root.ensures.root in
+    record {
+      versions = reads.versions;
+      few = omega (arith, number, reads.version_is);
+      base_apex = ap (λ (z : Zone). z.apex) bases ∙ so.apex_is;
+      newest_is = (let newest = reads.newest_is ∙ ap (λ (b : List Record). newest_after b reads.versions) (sym records) in λ i. record { apex = c.in-Ok.ensures.apex.1 i; records = newest i });
+      holds = λ o may.
+          c.over-store.ensures.memory shape o
+          (found_so shape o so.start c.in-Ok.found.end _ c.raise_root.new.root c.in-Ok.found.base c.in-Ok.found.newest.records c.in-Ok.found.changes.items reads
+          so.place_is so.until_is refl refl (sym number ∙ sym may.count)
+          (ap (λ (r : Root). r.snapshot_room) roots ∙ so.snapshot_room_is) (ap (λ (r : Root). r.journal_room) roots ∙ so.journal_room_is) so.apex_is so.base_fits
+          may.base_number (may.base_is ∙ records) may.rest_is);
+    }
 
 pub returns-clause-altered : goal.returns-clause-altered
 returns-clause-altered g c honest range before o opened none altered =

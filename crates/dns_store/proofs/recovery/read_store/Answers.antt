@@ -1,10 +1,10 @@
-use Rattle.std.proofs.Common.{arith, inl, inr, ⊎_elim, refl, ◌≡◌, ◌⊎◌, ◌+◌, ◌*◌, ℕ, List, sym, ◌∙◌, ap, subst}
+use Rattle.std.proofs.Common.{arith, inl, inr, ⊎_elim, refl, ◌≡◌, ◌⊎◌, ◌+◌, ◌*◌, ◌≤◌, length, ℕ, List, sym, ◌∙◌, ap, subst}
 use Rattle.std.specs.Prelude.{drop}
 use Rattle.std.specs.List.{flat_map}
 use Rattle.std.proofs.lemmas.Result.{err_from_is_err_and}
 use Rattle.dns_names.specs.Name.{wire}
 use Rattle.dns_records.specs.Record.{Record, plain}
-use Rattle.dns_zone.specs.Zone.{IsZone}
+use Rattle.dns_zone.specs.Zone.{Zone, IsZone}
 use Rattle.dns_layout.specs.Sector.{sector_at, number, snapshot_sectors_in}
 use Rattle.dns_layout.specs.Own.{IsIntactIn, IsAltered}
 use Rattle.dns_layout.specs.Journal.{place_behind, version_behind}
@@ -18,10 +18,12 @@ use Rattle.dns_store.specs.Root.{RootRefusalIn}
 use Rattle.dns_store.specs.Snapshot.{IsBadSnapshotIn, HoldsSnapshotIn, IsReachedPartIn}
 use Rattle.dns_store.specs.Opens.{AreChangesIn, base_of, sizes_of}
 use Rattle.dns_store.specs.Versions.{Shape, newest_after}
+use Rattle.dns_store.specs.Reading.{IsReadBy}
 use Rattle.dns_store.specs.Recovered.{AreLed}
 use Rattle.dns_store.specs.Damage.{NamesSpoiltIn, NamesWrongEntryIn, IsReachedEntryIn, NamesSector}
 use Rattle.dns_store.proofs.Damage.{root_named, snapshot_named, zone_named, journal_named, sector_named}
 use Rattle.dns_store.proofs.Leaves.{newest_split}
+use Rattle.dns_store.proofs.InMemory.{sectors_grow_in}
 use Rattle.dns_store.proofs.Plains.{zones_same}
 use Rattle.dns_store.proofs.Parts.{snapshot_is}
 use Rattle.dns_store.proofs.Opening.{stands_first, root_there, bank_altered, snapshot_there, journal_there, place_of, of_reading, of_fault, bank_refused, root_refused, found_there}
@@ -151,6 +153,30 @@ returns-clause-found g c honest range k altered o s opens part =
       base_is = base;
       led = subst (λ (b : List Record). AreLed b (drop o.base o.versions) c.in_ok-newest.changes.items) rs all.led;
       newest_is = all.newest_is ∙ ap (λ (b : List Record). newest_after b (drop o.base o.versions)) rs ∙ newest_split o.loaded o.base o.versions;
+    }
+
+pub returns-clause-memory : goal.returns-clause-memory
+returns-clause-memory g c =
+    let f = c.args.format in
+    let at = 1 + c.number.result * (c.args.snapshot + c.args.journal) in
+    let start : Cursor = record { at = at + c.args.snapshot; until = at + c.args.snapshot + c.args.journal; version = c.in_ok-root.root.base; opened = c.in_ok-root.root.bank_open } in
+    let mine = c.in-Ok.ensures.found in
+    let copied = c.in_ok-copy.ensures in
+    let same : c.in_ok-copy.copy ≡ c.in-Ok.base = λ i. record { apex = copied.0 i; records = copied.1 i } in
+    let octets : length (flat_map plain c.in-Ok.base.records) ≤ c.in_ok-root.root.snapshot_length =
+    subst (λ (xs : List ℕ). length xs ≤ c.in_ok-root.root.snapshot_length) (sym (sym mine.2 ∙ c.deref.ensures.value)) c.in_ok-octets.ensures.len in
+    let grows = sectors_grow_in f (length (flat_map plain c.in-Ok.base.records)) c.in_ok-root.root.snapshot_length octets in
+    record {
+      start = start;
+      version_is = refl;
+      place_is = refl;
+      until_is = c.read_versions.ensures.until;
+      snapshot_room_is = c.in_ok-root.ensures.rooms.0;
+      journal_room_is = c.in_ok-root.ensures.rooms.1;
+      apex_is = mine.1;
+      base_valid = mine.0;
+      base_fits = omega (arith, grows, c.in_ok-root.ensures.fits.0);
+      reads = subst (λ (z : Zone). IsReadBy f start c.read_versions.new.cursor z c.args.snapshot c.in_ok-newest.newest.records c.in_ok-newest.changes.items) same c.in_ok-newest.ensures.memory;
     }
 
 pub returns-in_err-newest-clause-reads : goal.returns-in_err-newest-clause-reads

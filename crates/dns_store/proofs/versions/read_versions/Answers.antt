@@ -1,18 +1,20 @@
-use Rattle.std.proofs.Common.{rules, arith, inl, inr, ⊎_elim, refl, ◌≡◌, ◌⊎◌, ◌<◌, MatchOption, ℕ, List, [], ◌∷◌, ◌++◌, sym, ◌∙◌, ap, subst}
-use Rattle.std.specs.Prelude.{Option}
+use Rattle.std.proofs.Common.{rules, arith, inl, inr, ⊎_elim, refl, ◌≡◌, ◌⊎◌, ◌<◌, ◌+◌, MatchOption, length, ℕ, List, [], ◌∷◌, ◌++◌, sym, ◌∙◌, ap, subst}
+use Rattle.std.specs.Prelude.{Option, ⊤}
 use Rattle.std.proofs.lemmas.Result.{err_from_is_err_and}
 use Rattle.dns_zone.specs.Zone.{IsZone}
 use Rattle.dns_changes.specs.Change.{Change, applied}
-use Rattle.dns_layout.specs.Sector.{sector_at}
+use Rattle.dns_layout.specs.Sector.{entry_sectors_in, sector_at}
 use Rattle.dns_layout.specs.Own.{IsIntactIn, IsAltered}
 use Rattle.dns_journal.specs.declared.read.Found.{Found}
 use Rattle.dns_journal.specs.declared.read.Cursor.{Cursor}
 use Rattle.dns_journal.specs.Reads.{IsJournalEnd, FindsEntry, IsRefusal, NamesSpoilt, IsThat, IsSectorReached as IsReachedAt}
 use Rattle.dns_journal.proofs.Looking.{none_read, reads_then}
 use Rattle.dns_journal.proofs.Altered.{altered_itself}
+use Rattle.dns_store.specs.Reading.{IsReadBy}
 use Rattle.dns_store.specs.Recovered.{IsNewestRecovered}
 use Rattle.dns_store.specs.Damage.{ReadChange, IsStepAtIn}
 use Rattle.dns_store.proofs.Damage.{named_within, one_more, refusal_named, fault_named}
+use Rattle.dns_store.proofs.InMemory.{read_none, read_more}
 use Rattle.dns_store.proofs.Recovering.{Goes, begins, next_is, all_recovered, not_refused}
 use Rattle.dns_store.proofs.Reached.{reach_refused, reach_ended, reach_taken, reach_on}
 use Rattle.dns_store.proofs.versions.read_versions.Goals as goal
@@ -24,6 +26,8 @@ entries-init g c = record {
   until = refl;
   within = c.requires.at;
   rises = omega arith;
+  memory = subst (λ (l : List Change). IsReadBy c.args.format c.args.cursor.now c.args.cursor.now c.args.base c.args.room c.args.base.records l) (sym c.new-changes.ensures.items) (read_none c.args.format c.args.cursor.now c.args.base c.args.room);
+  valid = c.apex-valid.ensures.valid;
   apex = refl;
   len = c.snapshot_len-len.ensures;
   steps = λ honest. ([], (refl, refl));
@@ -64,6 +68,17 @@ entries-preserved g c = record {
   until = c.next_entry.ensures.until ∙ c.entries.invariant.until;
   within = search (rules, arith);
   rises = search (rules, arith);
+  memory =
+      let f = c.args.format in
+      let mine = c.in-Ok.ensures.found in
+      let moves = subst (λ (r : Option Found). MatchOption r ⊤ (λ e. (c.next_entry.new.cursor.at ≡ c.entries.cursor.at + entry_sectors_in f (length e.octets.items)) × (c.next_entry.new.cursor.version ≡ c.entries.cursor.version + 1))) c.in-Some.is c.in_ok-found.ensures.moves in
+      let pushed : c.push.new.self.items ≡ c.entries.changes.items ++ c.in-Ok.step.0 ∷ [] = search rules in
+      let place = moves.0 ∙ ap (λ (xs : List ℕ). c.entries.cursor.at + entry_sectors_in f (length xs)) (sym (mine.1 ∙ c.deref.ensures.value)) in
+      subst (λ (l : List Change). IsReadBy f c.args.cursor.now c.next_entry.new.cursor c.args.base c.args.room c.in-Ok.step.1.records l) (sym pushed)
+      (read_more f c.args.cursor.now c.entries.cursor c.next_entry.new.cursor c.args.base c.args.room c.entries.zone.records c.in-Ok.step.1.records c.entries.changes.items c.in-Ok.step.0 c.entries.invariant.memory
+      (subst (λ a. IsZone (record { apex = a; records = c.entries.zone.records })) c.entries.invariant.apex c.entries.invariant.valid) moves.1 place mine.0 mine.2 mine.3
+      (subst (λ a. IsZone (record { apex = a; records = c.in-Ok.step.1.records })) (mine.4 ∙ c.entries.invariant.apex) mine.5) c.in-Ok.ensures.fits.1);
+  valid = c.in-Ok.ensures.found.5;
   apex = c.in-Ok.ensures.found.4 ∙ c.entries.invariant.apex;
   len = c.in-Ok.ensures.fits.0;
   steps = λ honest.
@@ -110,6 +125,11 @@ entries-preserved g c = record {
       (λ e taken. c.in-Ok.ensures.taken e taken.written (taken.octets_are ∙ sym c.deref.ensures.value) taken.applies (subst (λ a. IsZone (record { apex = a; records = applied e c.entries.zone.records })) (sym c.entries.invariant.apex) taken.valid) taken.fits)
       c.in-Ok.ensures.found.3;
 }
+
+pub returns-clause-memory : goal.returns-clause-memory
+returns-clause-memory g c =
+    let same : c.next_entry.new.cursor ≡ c.entries.cursor = search rules in
+    subst (λ (n : Cursor). IsReadBy c.args.format c.args.cursor.now n c.args.base c.args.room c.entries.zone.records c.entries.changes.items) (sym same) c.entries.invariant.memory
 
 pub returns-clause-reads_all : goal.returns-clause-reads_all
 returns-clause-reads_all g c honest k altered vs es reads are =

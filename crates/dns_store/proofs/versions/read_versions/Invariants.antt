@@ -1,4 +1,5 @@
 use Rattle.std.proofs.Common.{◌≡◌, ◌≤◌, ◌-◌, ℕ, List}
+use Rattle.dns_zone.specs.Zone.{IsZone}
 use Rattle.dns_layout.specs.Sector.{sector_at}
 use Rattle.dns_layout.specs.Own.{IsIntactIn, IsAltered}
 use Rattle.dns_layout.specs.Journal.{Entry}
@@ -6,6 +7,7 @@ use Rattle.dns_journal.specs.Reads.{OnlyReads, ReadsFrom}
 use Rattle.dns_store.specs.Versions.{Versions}
 use Rattle.dns_store.specs.Plain.{octets_of}
 use Rattle.dns_store.specs.Opens.{AreChangesIn}
+use Rattle.dns_store.specs.Reading.{IsReadBy}
 use Rattle.dns_store.specs.Damage.{ReadChange, AreStepsIn, IsReachedEntryIn}
 use Rattle.dns_store.proofs.Recovering.{Goes}
 use Rattle.dns_store.proofs.versions.read_versions.Given as goal
@@ -17,6 +19,8 @@ invariant-entries g l = record {
   until : l.cursor.until ≡ l.fn.cursor.until;
   within : l.cursor.at ≤ l.cursor.until;
   rises : l.fn.cursor.at ≤ l.cursor.at;
+  memory : IsReadBy l.format l.fn.cursor l.cursor l.fn.base l.room l.zone.records l.changes.items;
+  valid : IsZone l.zone;
   apex : l.zone.apex ≡ l.fn.base.apex;
   len : l.len ≡ octets_of l.zone.records;
   steps : g.D.Sectors.is_honest l.fn.device → (ss : List ReadChange) × AreStepsIn l.format l.fn.base.apex l.room (g.D.Sectors.seen l.fn.device) l.fn.cursor l.fn.base.records ss l.cursor l.zone.records;

@@ -1,5 +1,4 @@
-use Rattle.std.proofs.Common.{◌≡◌, ◌≤◌, List, sym, ◌∙◌, ap, subst, arith}
-use Rattle.dns_records.specs.Record.{Record}
+use Rattle.std.proofs.Common.{◌≡◌, ◌≤◌, sym, ◌∙◌, ap, subst, arith}
 use Rattle.dns_zone.specs.Zone.{IsZone}
 use Rattle.dns_changes.specs.Change.{Change, IsChange, applied}
 use Rattle.dns_layout.specs.Sector.{snapshot_sectors_in}

@@ -1,12 +1,12 @@
 use Rattle.std.proofs.Common.{rules, ◌≡◌, ◌<◌, List, [], ◌∷◌, ◌++◌, length, refl, sym, subst, ap, ◌∙◌, arith, length-append}
-use Rattle.std.specs.Prelude.{Some, slice_get, slice_set, slice_index_or}
+use Rattle.std.specs.Prelude.{◌↔◌, Some, slice_get, slice_set, slice_index_or}
 use Rattle.dns_sectors.specs.Device.{LeavesOnly}
 use Rattle.dns_sectors.proofs.Moments.{started, joined}
 use Rattle.dns_store.specs.Versions.{Kept, OpensAsLeft}
 use Rattle.dns_versions.specs.Each.{Each3}
 use Rattle.dns_versions.specs.Held.{HasVersions}
 use Rattle.dns_versions.specs.Flush.{kept_after_flush, flushed_to, IsCounted}
-use Rattle.dns_versions.proofs.Lists.{get3, set3, mid3, diag, long3, stands, more, fails_more, untouched, same_at, newest_set}
+use Rattle.dns_versions.proofs.Lists.{get3, set3, mid3, map3, diag, diag2, set2, long3, stands, more, fails_more, untouched, same_at, newest_set}
 use Rattle.dns_versions.proofs.flush.flush_all.Goals as goal
 
 pub loop-i-init : goal.loop-i-init
@@ -16,8 +16,9 @@ loop-i-init g c = record {
   rest = refl;
   newest = refl;
   held = λ ks each. ([], refl, each, refl, tt);
-  moments = λ ks each. diag (λ z b k. HasVersions g.S.ZoneStore.keeps z b k) (λ a b k. LeavesOnly g.S.ZoneStore.moment g.S.ZoneStore.left_since a.store b.store (OpensAsLeft g.S.ZoneStore.opens k)) c.args.zones.now c.args.pending.now ks each
-      (λ z b k h. started g.S.ZoneStore.moment g.S.ZoneStore.left_since b.store (OpensAsLeft g.S.ZoneStore.opens k) (λ x left. g.met.S.ZoneStore.at_rest b.store k h.kept x left));
+  moments = λ ks each. diag (λ z b k. HasVersions g.S.ZoneStore.keeps z b k) (λ a b k. g.S.ZoneStore.is_honest a.store → g.S.ZoneStore.is_honest b.store × LeavesOnly g.S.ZoneStore.moment g.S.ZoneStore.left_since a.store b.store (OpensAsLeft g.S.ZoneStore.opens k)) c.args.zones.now c.args.pending.now ks each
+      (λ z b k h honest. (honest, started g.S.ZoneStore.moment g.S.ZoneStore.left_since b.store (OpensAsLeft g.S.ZoneStore.opens k) (λ x left. g.met.S.ZoneStore.at_rest b.store k h.kept honest x left)));
+  honest = diag2 (λ a b. g.S.ZoneStore.is_honest b.store ↔ g.S.ZoneStore.is_honest a.store) c.args.pending.now (λ a. (λ h. h, λ h. h));
 }
 
 pub loop-i-preserved : goal.loop-i-preserved
@@ -53,13 +54,23 @@ loop-i-preserved g c =
           let there = get3 (λ z b k. HasVersions g.S.ZoneStore.keeps z b k) zones pending (flushed_to fails ks) i c.index-zones-i.result c.index-pending-i.result was.2 inside in
           let k = there.0 in
           let before : slice_get ks i ≡ Some k = subst (λ n. slice_get ks n ≡ Some k) was.1 (sym (stands fails ks) ∙ subst (λ n. slice_get (flushed_to fails ks) n ≡ Some k) (sym was.1) there.1) in
-          mid3 (λ a b k. LeavesOnly g.S.ZoneStore.moment g.S.ZoneStore.left_since a.store b.store (OpensAsLeft g.S.ZoneStore.opens k)) c.args.pending.now pending ks i c.index-pending-i.result c.flush-failed.new.self inside
+          mid3 (λ a b k. g.S.ZoneStore.is_honest a.store → g.S.ZoneStore.is_honest b.store × LeavesOnly g.S.ZoneStore.moment g.S.ZoneStore.left_since a.store b.store (OpensAsLeft g.S.ZoneStore.opens k)) c.args.pending.now pending ks i c.index-pending-i.result c.flush-failed.new.self inside
           (c.loop-i.invariant.moments ks each)
-          (λ a x is so_far.
+          (λ a x is so_far honest.
           let same : x ≡ k = cc (sym is ∙ before) in
-          joined g.S.ZoneStore.moment g.S.ZoneStore.left_since a.store (slice_index_or pending i c.index-pending-i.result).store c.flush-failed.new.self.store (OpensAsLeft g.S.ZoneStore.opens x) (OpensAsLeft g.S.ZoneStore.opens k)
-          so_far (c.flush-failed.ensures.any_moment k there.2.kept) (λ content o. subst (λ (y : Kept). OpensAsLeft g.S.ZoneStore.opens y content) (sym same) o));
+          let sound = (so_far honest).0 in (
+            c.flush-failed.ensures.honest.1 sound,
+            joined g.S.ZoneStore.moment g.S.ZoneStore.left_since a.store (slice_index_or pending i c.index-pending-i.result).store c.flush-failed.new.self.store (OpensAsLeft g.S.ZoneStore.opens x) (OpensAsLeft g.S.ZoneStore.opens k)
+                (so_far honest).1 (c.flush-failed.ensures.any_moment k there.2.kept sound) (λ content o. subst (λ (y : Kept). OpensAsLeft g.S.ZoneStore.opens y content) (sym same) o),
+          ));
+      honest = set2 (λ a b. g.S.ZoneStore.is_honest b.store ↔ g.S.ZoneStore.is_honest a.store) c.args.pending.now pending i c.index-pending-i.result c.flush-failed.new.self inside c.loop-i.invariant.honest
+          (λ a so_far. (λ h. so_far.0 (c.flush-failed.ensures.honest.0 h), λ h. c.flush-failed.ensures.honest.1 (so_far.1 h)));
     }
+
+pub returns-clause-any_moment : goal.returns-clause-any_moment
+returns-clause-any_moment g c ks each =
+    map3 (λ a b k. g.S.ZoneStore.is_honest a.store → g.S.ZoneStore.is_honest b.store × LeavesOnly g.S.ZoneStore.moment g.S.ZoneStore.left_since a.store b.store (OpensAsLeft g.S.ZoneStore.opens k)) (λ a b k. g.S.ZoneStore.is_honest a.store → LeavesOnly g.S.ZoneStore.moment g.S.ZoneStore.left_since a.store b.store (OpensAsLeft g.S.ZoneStore.opens k)) c.args.pending.now c.loop-i.pending ks
+    (λ a b k go honest. (go honest).1) (c.loop-i.invariant.moments ks each)
 
 pub returns-clause-held : goal.returns-clause-held
 returns-clause-held g c ks each =

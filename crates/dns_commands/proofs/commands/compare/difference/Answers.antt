@@ -34,7 +34,7 @@ returns-in-Ok g c =
                   (let taken = t.2 o h in
                   let kept = fresh (own_shape own) (opened_again o) in
                   let newest = ap (newest_after o.loaded) (append-nil o.versions) ∙ sym (ap (λ (z : Zone). z.records) taken.newest_is) in
-                  (taken.newest_is, c.with_room.ensures.room kept refl newest (c.newest-number.ensures kept taken.keeps_them), leaves_kept g.D.Sectors store kept taken.keeps_them)),
+                  (taken.newest_is, c.with_room.ensures.room kept refl newest (c.newest-number.ensures kept taken.keeps_them), leaves_kept g.D.Sectors store kept taken.keeps_them (is.honest.1 honest))),
             ));
         any_moment = is.any_moment;
       }),

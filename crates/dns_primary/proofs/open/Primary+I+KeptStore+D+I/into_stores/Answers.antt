@@ -1,5 +1,5 @@
 use Rattle.dns_primary.specs.Step.{base_moved}
-use Rattle.dns_primary.proofs.HandedOut.{all_honest, event_recoverable, rest_recoverable}
+use Rattle.dns_primary.proofs.HandedOut.{event_recoverable, rest_recoverable}
 use Rattle.dns_primary.proofs.open.Primary+I+KeptStore+D+I.into_stores.Goals as goal
 
 pub returns-clause-at_rest : goal.returns-clause-at_rest
@@ -9,5 +9,4 @@ returns-clause-at_rest g c m event apexes settings kept so =
 pub returns-clause-within : goal.returns-clause-within
 returns-clause-within g c m event before effects apexes settings stepped so =
     let pending = c.args.self.pending.items in
-    let honest = all_honest m event g.met.D.Sectors.counts_now g.met.D.Sectors.only_now c.args.self.zones.items pending stepped.next.zones stepped.kept.zones_are in
-    event_recoverable m event g.met.D.Sectors.counts_now g.met.D.Sectors.only_now (base_moved m event) before.pending.items pending m.zones apexes settings (λ p r e. e) so honest stepped.any_moment
+    event_recoverable m event g.met.D.Sectors.counts_now g.met.D.Sectors.only_now (base_moved m event) before.pending.items pending m.zones apexes settings (λ p r e. e) so stepped.honest stepped.any_moment

@@ -21,6 +21,7 @@ returns-in-Some-clause-step g c old kept =
       fails = s.fails;
       failed = s.failed;
       any_moment = subst (λ (o : Option (ℕ × ℕ)). AtAnyMomentOf g.S.ZoneStore o old c.args.self.now.pending.items c.serve.new.self.pending.items) (sym lacks) s.any_moment;
+      honest = s.honest;
       next = s.next;
       stated = s.stated;
       is = arrived old s.next c.args.number c.in-Some.peer c.args.octets.now s.fails s.stated there s.is;
@@ -36,4 +37,4 @@ returns-in-None-clause-step g c old kept =
     let event = Arrives c.args.number c.args.octets.now in
     let none : peer_at c.args.number old.connections ≡ None = sym (kept.connections_are c.args.number) ∙ sym c.get.ensures ∙ sym c.copied.ensures ∙ c.in-None.is in
     on_any old c.args.self.now c.args.self.now c.nothing.result (base_moved old event) (λ fails stated next. Step fails old event stated next)
-    (stays c.args.self.now old c.nothing.result nothing (λ fails stated next. Step fails old event stated next) (rests g.S.ZoneStore c.args.self.now.zones.items c.args.self.now.pending.items (map kept_of old.zones) (λ x k h y left. g.met.S.ZoneStore.at_rest x k h y left) kept.zones_are) kept c.nothing.ensures.effects_are (arrived_nowhere old c.args.number c.args.octets.now none))
+    (stays c.args.self.now old c.nothing.result nothing (λ fails stated next. Step fails old event stated next) (rests g.S.ZoneStore c.args.self.now.zones.items c.args.self.now.pending.items (map kept_of old.zones) (λ x k h honest y left. g.met.S.ZoneStore.at_rest x k h honest y left) kept.zones_are) kept c.nothing.ensures.effects_are (arrived_nowhere old c.args.number c.args.octets.now none))

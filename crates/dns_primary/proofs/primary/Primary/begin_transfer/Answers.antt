@@ -15,7 +15,7 @@ use Rattle.dns_primary.specs.Keeps.{AreEffects, HasConnection, sending_on}
 use Rattle.dns_primary.specs.Steps.{nothing, one_reply}
 use Rattle.dns_primary.specs.Sending.{TransferBeginsOrLacks, SetsOn}
 use Rattle.dns_primary.proofs.Transferred.{none_of, peer_with, pushed, set_are}
-use Rattle.dns_primary.proofs.Served.{lack, rests, stays}
+use Rattle.dns_primary.proofs.Served.{as_honest, lack, rests, stays}
 use Rattle.dns_primary.proofs.primary.Primary.begin_transfer.Goals as goal
 
 pub returns-in-Ok-clause-step : goal.returns-in-Ok-clause-step
@@ -34,7 +34,8 @@ returns-in-Ok-clause-step g c old kept free =
     record {
       fails = [];
       failed = tt;
-      any_moment = (rests g.S.ZoneStore c.args.self.now.zones.items c.args.self.now.pending.items (map kept_of old.zones) (λ x k h y left. g.met.S.ZoneStore.at_rest x k h y left) kept.zones_are);
+      any_moment = (rests g.S.ZoneStore c.args.self.now.zones.items c.args.self.now.pending.items (map kept_of old.zones) (λ x k h honest y left. g.met.S.ZoneStore.at_rest x k h honest y left) kept.zones_are);
+      honest = as_honest g.S.ZoneStore c.args.self.now.pending.items;
       next = next;
       stated = nothing;
       is = inl (refl, subst (λ (t : To). TransferBegins old t s [] next) (sym c.in-Connection.is) (refl, refl), record { sent = refl; accepted = refl; noted = refl });
@@ -55,7 +56,8 @@ returns-in-Err-clause-step g c old kept free =
     record {
       fails = [];
       failed = tt;
-      any_moment = (rests g.S.ZoneStore c.args.self.now.zones.items c.args.self.now.pending.items (map kept_of old.zones) (λ x k h y left. g.met.S.ZoneStore.at_rest x k h y left) kept.zones_are);
+      any_moment = (rests g.S.ZoneStore c.args.self.now.zones.items c.args.self.now.pending.items (map kept_of old.zones) (λ x k h honest y left. g.met.S.ZoneStore.at_rest x k h honest y left) kept.zones_are);
+      honest = as_honest g.S.ZoneStore c.args.self.now.pending.items;
       next = old;
       stated = lack (Replied c.args.to (text (bare_reply (header_of c.args.header.now) rcode_servfail)));
       is = inr (record { nothing = refl; stays = refl; is = refl });
@@ -75,7 +77,7 @@ pub returns-in-Address-clause-step : goal.returns-in-Address-clause-step
 returns-in-Address-clause-step g c old kept free =
     let s = c.args.session in
     let p = c.args.self.now in
-    let rest = (rests g.S.ZoneStore c.args.self.now.zones.items c.args.self.now.pending.items (map kept_of old.zones) (λ x k h y left. g.met.S.ZoneStore.at_rest x k h y left) kept.zones_are) in
+    let rest = (rests g.S.ZoneStore c.args.self.now.zones.items c.args.self.now.pending.items (map kept_of old.zones) (λ x k h honest y left. g.met.S.ZoneStore.at_rest x k h honest y left) kept.zones_are) in
     let step = TransferBeginsOrLacks old c.args.to (header_of c.args.header.now) s in
     ⊎_elim
     (λ h.

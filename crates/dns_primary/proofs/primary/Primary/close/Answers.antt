@@ -8,7 +8,7 @@ use Rattle.dns_primary.specs.Keeps.{IsWaiting, sending_on}
 use Rattle.dns_primary.specs.Steps.{nothing}
 use Rattle.dns_primary.proofs.Connected.{closed_are, closed_as_many, map2}
 use Rattle.dns_primary.proofs.Transferred.{closed_sending}
-use Rattle.dns_primary.proofs.Served.{rests}
+use Rattle.dns_primary.proofs.Served.{as_honest, rests}
 use Rattle.dns_primary.proofs.Flushed.{refilled}
 use Rattle.dns_primary.proofs.primary.Primary.close.Goals as goal
 
@@ -26,7 +26,8 @@ returns-clause-step g c old kept =
     record {
       fails = [];
       failed = tt;
-      any_moment = (rests g.S.ZoneStore c.args.self.now.zones.items c.args.self.now.pending.items (map kept_of old.zones) (λ x k h y left. g.met.S.ZoneStore.at_rest x k h y left) kept.zones_are);
+      any_moment = (rests g.S.ZoneStore c.args.self.now.zones.items c.args.self.now.pending.items (map kept_of old.zones) (λ x k h honest y left. g.met.S.ZoneStore.at_rest x k h honest y left) kept.zones_are);
+      honest = as_honest g.S.ZoneStore c.args.self.now.pending.items;
       next = closed number old;
       stated = nothing;
       is = inl (refl, record { state = refl; sent = refl; accepted = refl; noted = refl });

@@ -6,13 +6,13 @@ use Rattle.dns_primary.specs.Steps.{nothing}
 use Rattle.dns_primary.proofs.Connected.{connected_are}
 use Rattle.dns_primary.proofs.Transferred.{made_sending}
 use Rattle.dns_primary.specs.Machine.{kept_of}
-use Rattle.dns_primary.proofs.Served.{rests, gives_none, stays}
+use Rattle.dns_primary.proofs.Served.{as_honest, rests, gives_none, stays}
 use Rattle.dns_primary.proofs.primary.Primary.connect.Goals as goal
 
 pub returns-then-len-ge-MOST_CONNECTIONS-clause-step : goal.returns-then-len-ge-MOST_CONNECTIONS-clause-step
 returns-then-len-ge-MOST_CONNECTIONS-clause-step g c old kept =
     let most : 64 ≤ length old.connections = omega (arith, kept.as_many, c.len.ensures, c.if-len-ge-MOST_CONNECTIONS.true) in
-    stays c.args.self.now old c.nothing-effects.result nothing (λ fails stated next. Step fails old (Connect c.args.peer) stated next) (rests g.S.ZoneStore c.args.self.now.zones.items c.args.self.now.pending.items (map kept_of old.zones) (λ x k h y left. g.met.S.ZoneStore.at_rest x k h y left) kept.zones_are) kept c.nothing-effects.ensures.effects_are
+    stays c.args.self.now old c.nothing-effects.result nothing (λ fails stated next. Step fails old (Connect c.args.peer) stated next) (rests g.S.ZoneStore c.args.self.now.zones.items c.args.self.now.pending.items (map kept_of old.zones) (λ x k h honest y left. g.met.S.ZoneStore.at_rest x k h honest y left) kept.zones_are) kept c.nothing-effects.ensures.effects_are
     (inl (refl, inr (most, gives_none old)))
 
 pub returns-clause-step : goal.returns-clause-step
@@ -26,7 +26,8 @@ returns-clause-step g c old kept =
     record {
       fails = [];
       failed = tt;
-      any_moment = (rests g.S.ZoneStore c.args.self.now.zones.items c.args.self.now.pending.items (map kept_of old.zones) (λ x k h y left. g.met.S.ZoneStore.at_rest x k h y left) kept.zones_are);
+      any_moment = (rests g.S.ZoneStore c.args.self.now.zones.items c.args.self.now.pending.items (map kept_of old.zones) (λ x k h honest y left. g.met.S.ZoneStore.at_rest x k h honest y left) kept.zones_are);
+      honest = as_honest g.S.ZoneStore c.args.self.now.pending.items;
       next = connected number c.args.peer old;
       stated = record { sent = []; accepted = Some number; noted = Nothing };
       is = inl (refl, inl (record { few = few; number = number; below = below; free = free; state = refl; reported = refl }));

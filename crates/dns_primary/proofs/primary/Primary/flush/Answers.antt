@@ -1,7 +1,6 @@
 use Rattle.std.proofs.Common.{List, length, map, sym, subst, ap, refl, ◌∙◌, arith}
 use Rattle.std.proofs.lemmas.List.{append-nil}
-use Rattle.std.specs.Prelude.{None}
-use Rattle.dns_sectors.specs.Device.{LeavesOnly}
+use Rattle.std.specs.Prelude.{◌↔◌, None}
 use Rattle.dns_store.specs.Versions.{OpensAsLeft}
 use Rattle.dns_versions.specs.Each.{Each2}
 use Rattle.dns_versions.specs.Held.{HasVersions, newest_each}
@@ -10,8 +9,9 @@ use Rattle.dns_primary.specs.declared.event.Waiting.{Waiting}
 use Rattle.dns_primary.specs.Machine.{kept_of}
 use Rattle.dns_primary.specs.Flush.{flushed, flush_sends}
 use Rattle.dns_primary.specs.Step.{noted_of}
+use Rattle.dns_primary.specs.Steps.{LeavesIfHonest}
 use Rattle.dns_primary.specs.Keeps.{IsWaiting, header_out}
-use Rattle.dns_primary.proofs.Flushed.{refilled, moved3, failed_at, flushed_settings}
+use Rattle.dns_primary.proofs.Flushed.{refilled, moved2, moved3, failed_at, flushed_settings}
 use Rattle.dns_primary.proofs.primary.Primary.flush.Goals as goal
 
 pub returns-clause-step : goal.returns-clause-step
@@ -28,7 +28,8 @@ returns-clause-step g c old kept =
     record {
       fails = fails;
       failed = failed_at (λ b. g.S.ZoneStore.failed b.store) fails b (sym y) done.2;
-      any_moment = moved3 b (sym y) (map kept_of old.zones) (λ a b k. LeavesOnly g.S.ZoneStore.moment g.S.ZoneStore.left_since a.store b.store (OpensAsLeft g.S.ZoneStore.opens k)) (c.flush_zones-failed.ensures.any_moment (map kept_of old.zones) given);
+      any_moment = moved3 b (sym y) (map kept_of old.zones) (λ a b k. LeavesIfHonest g.S.ZoneStore a.store b.store (OpensAsLeft g.S.ZoneStore.opens k)) (c.flush_zones-failed.ensures.any_moment (map kept_of old.zones) given);
+      honest = moved2 b (sym y) (λ a b. g.S.ZoneStore.is_honest b.store ↔ g.S.ZoneStore.is_honest a.store) c.flush_zones-failed.ensures.honest;
       next = flushed fails old;
       stated = record { sent = flush_sends fails old; accepted = None; noted = noted_of (first_true fails) };
       is = (done.1, record { state = refl; sent = refl; accepted = refl; noted = refl });

@@ -8,7 +8,7 @@ use Rattle.dns_store.specs.Versions.{Kept, OpensAsLeft}
 use Rattle.dns_store.specs.Checkpoint.{IsKeptNumber}
 use Rattle.dns_versions.specs.declared.zone_versions.ZoneVersions.{ZoneVersions}
 use Rattle.dns_versions.specs.Each.{Each2, Each3}
-use Rattle.dns_versions.proofs.Lists.{newest_kept}
+use Rattle.dns_versions.proofs.Lists.{newest_kept, set2}
 use Rattle.dns_versions.specs.Flush.{IsCounted, first_true}
 use Rattle.dns_versions.specs.Held.{HasVersions, shown_zone}
 use Rattle.dns_primary.specs.declared.event.Noted.{Noted}
@@ -63,19 +63,23 @@ returns-clause-step g c old kept =
     let r = c.checkpoint-moved.result in
     let moved = moved_result keeps (slice_index_or q.zones.items index d) b c.checkpoint-moved.new.self zf c.index.result.now.keep c.args.room set.keep (zone_settled at.0 z.0) held r (e.closed (kept_of zf) held.kept) (λ n none is. e.moved (kept_of zf) n held.kept none is) (λ n none is. e.device (kept_of zf) n held.kept none is) (e.stays (kept_of zf) held.kept) in
     let setting : (moved.0).setting ≡ zf.setting = setting_of c.args.room zf moved.0 r moved.1 in
+    let sound = subst (λ (x : ZoneVersions g.row.I.Denot g.row.S.Denot). g.S.ZoneStore.is_honest x.store) (sym c.index_mut-versions.ensures.value) in
+    let back = subst (λ (x : ZoneVersions g.row.I.Denot g.row.S.Denot). g.S.ZoneStore.is_honest x.store) c.index_mut-versions.ensures.value in
     record {
       fails = either_fails (moved_by r) index fails;
       failed = failed_either (λ (x : ZoneVersions g.row.I.Denot g.row.S.Denot). g.S.ZoneStore.failed x.store) (moved_by r) index fails p.pending.items q.pending.items new s.failed (λ a here.
           let first : b ≡ a = c.index_mut-versions.ensures.value ∙ got q.pending.items index a b here in
           subst (λ (x : ZoneVersions g.row.I.Denot g.row.S.Denot). IsCounted (moved_by r) (g.S.ZoneStore.failed x.store) (g.S.ZoneStore.failed new.store)) first
           (record { grows = e.grows; rises = λ is. e.failed (device_of r is) }));
-      any_moment = moved_moments (λ (x : ZoneVersions g.row.I.Denot g.row.S.Denot). x.store) g.S.ZoneStore.moment g.S.ZoneStore.left_since g.S.ZoneStore.opens p.pending.items q.pending.items old.zones index c.args.room z.0 b new s.any_moment z.1
-          (λ a first. move_at g.S.ZoneStore.moment g.S.ZoneStore.left_since g.S.ZoneStore.opens c.args.room z.0 at.0 a.store b.store new.store
+      any_moment = moved_moments (λ (x : ZoneVersions g.row.I.Denot g.row.S.Denot). x.store) g.S.ZoneStore.is_honest g.S.ZoneStore.moment g.S.ZoneStore.left_since g.S.ZoneStore.opens p.pending.items q.pending.items old.zones index c.args.room z.0 b new s.any_moment s.honest z.1
+          (λ a true_mid first. move_at g.S.ZoneStore.moment g.S.ZoneStore.left_since g.S.ZoneStore.opens c.args.room z.0 at.0 a.store b.store new.store
           (subst (λ (x : ZoneVersions g.row.I.Denot g.row.S.Denot). LeavesOnly g.S.ZoneStore.moment g.S.ZoneStore.left_since a.store x.store (OpensAsLeft g.S.ZoneStore.opens (kept_of z.0))) (sym c.index_mut-versions.ensures.value) first)
-          (λ k n is none number. e.any_moment k n (subst (λ (j : Kept). keeps b.store j) (sym is) held.kept) none
+          (λ k n is none number. e.any_moment k n (subst (λ (j : Kept). keeps b.store j) (sym is) held.kept) (sound true_mid) none
           (subst (λ (keep : ℕ). IsKeptNumber k keep c.args.room n) (sym (set.keep ∙ ap (λ (t : Setting). t.keep) (setting_stays at.0 z.0))) number))
           (λ shut. still_result _ _ r ((e.closed (kept_of zf) held.kept).1 shut) e.still)
-          (λ k is x left. g.met.S.ZoneStore.at_rest b.store k (subst (λ (j : Kept). keeps b.store j) (sym is) held.kept) x left));
+          (λ k is x left. g.met.S.ZoneStore.at_rest b.store k (subst (λ (j : Kept). keeps b.store j) (sym is) held.kept) (sound true_mid) x left));
+      honest = set2 (λ (x y : ZoneVersions g.row.I.Denot g.row.S.Denot). g.S.ZoneStore.is_honest y.store ↔ g.S.ZoneStore.is_honest x.store) p.pending.items q.pending.items index b new inside s.honest
+          (λ a so_far. (λ h. so_far.0 (back (e.honest.0 h)), λ h. e.honest.1 (sound (so_far.1 h))));
       next = next old index fails z.0 zf moved.0 (s.is).0 z.1 at.1;
       stated = stated old index fails z.0 zf moved.0 (s.is).0 z.1 at.1 (noted_moved (noted_of (first_true fails)) index r);
       is = stepped old index fails z.0 zf moved.0 (s.is).0 z.1 at.1 c.args.room r moved.1;

@@ -16,4 +16,4 @@ returns-in-None-clause-step g c old kept =
     let s = c.make_place.ensures.step old kept in
     subst (λ (o : Option ℕ). SteppedOn old (lacked o) c.args.self.now c.make_place.new.self c.make_place.result (IsBegunOrLacks old (lacked o))) (sym c.in-None.is)
     (on_any old c.args.self.now c.make_place.new.self c.make_place.result None (IsBegunOrLacks old None)
-    (record { fails = s.fails; failed = s.failed; any_moment = s.any_moment; next = s.next; stated = s.stated; is = inl s.is; effects_are = s.effects_are; kept = s.kept }))
+    (record { fails = s.fails; failed = s.failed; any_moment = s.any_moment; honest = s.honest; next = s.next; stated = s.stated; is = inl s.is; effects_are = s.effects_are; kept = s.kept }))

@@ -11,7 +11,7 @@ use Rattle.dns_primary.specs.Flush.{Replied}
 use Rattle.dns_primary.specs.Transfer.{IsPumped, open_still, set_transfer, with_transfer}
 use Rattle.dns_primary.specs.Steps.{nothing, one_reply}
 use Rattle.dns_primary.proofs.Transferred.{peer_with, set_are, there_open, sent_on, sent_none}
-use Rattle.dns_primary.proofs.Served.{rests}
+use Rattle.dns_primary.proofs.Served.{as_honest, rests}
 use Rattle.dns_primary.proofs.primary.Primary.pump.Goals as goal
 
 -- a message, or none, by what is known of either
@@ -26,7 +26,7 @@ returns-in-Ok-clause-step g c old kept =
     (let number = c.args.number in
     let items = c.args.self.now.transfers.items in
     let news = c.next_on.new.transfers.items in
-    let rest = (rests g.S.ZoneStore c.args.self.now.zones.items c.args.self.now.pending.items (map kept_of old.zones) (λ x k h y left. g.met.S.ZoneStore.at_rest x k h y left) kept.zones_are) in
+    let rest = (rests g.S.ZoneStore c.args.self.now.zones.items c.args.self.now.pending.items (map kept_of old.zones) (λ x k h honest y left. g.met.S.ZoneStore.at_rest x k h honest y left) kept.zones_are) in
     ⊎_elim
     (λ e.
     (let at = sym (kept.transfers_are number) ∙ e.0 in
@@ -34,6 +34,7 @@ returns-in-Ok-clause-step g c old kept =
       fails = [];
       failed = tt;
       any_moment = rest;
+      honest = as_honest g.S.ZoneStore c.args.self.now.pending.items;
       next = old;
       stated = nothing;
       is = inl (refl, subst (λ (o : Option Sending). IsPumped old number o [] old) (sym at) (refl, refl), record { sent = refl; accepted = refl; noted = refl });
@@ -55,6 +56,7 @@ returns-in-Ok-clause-step g c old kept =
       fails = [];
       failed = tt;
       any_moment = rest;
+      honest = as_honest g.S.ZoneStore c.args.self.now.pending.items;
       next = next;
       stated = nothing;
       is = inl (refl, subst (λ (o : Option Sending). IsPumped old number o [] next) (sym at) (sent_none old number s s.left e.2), record { sent = refl; accepted = refl; noted = refl });
@@ -80,7 +82,8 @@ returns-in-Ok-clause-step g c old kept =
     record {
       fails = [];
       failed = tt;
-      any_moment = (rests g.S.ZoneStore c.args.self.now.zones.items c.args.self.now.pending.items (map kept_of old.zones) (λ x k h y left. g.met.S.ZoneStore.at_rest x k h y left) kept.zones_are);
+      any_moment = (rests g.S.ZoneStore c.args.self.now.zones.items c.args.self.now.pending.items (map kept_of old.zones) (λ x k h honest y left. g.met.S.ZoneStore.at_rest x k h honest y left) kept.zones_are);
+      honest = as_honest g.S.ZoneStore c.args.self.now.pending.items;
       next = next;
       stated = one_reply (Replied (Connection number) octets);
       is = inl (refl, subst (λ (o : Option Sending). IsPumped old number o (Replied (Connection number) octets ∷ []) next) (sym at) (sent_on old number s s.left octets rest h.2 (h.3).1), record { sent = refl; accepted = refl; noted = refl });
@@ -100,7 +103,8 @@ returns-in-Err-clause-step g c old kept =
     record {
       fails = [];
       failed = tt;
-      any_moment = (rests g.S.ZoneStore c.args.self.now.zones.items c.args.self.now.pending.items (map kept_of old.zones) (λ x k h y left. g.met.S.ZoneStore.at_rest x k h y left) kept.zones_are);
+      any_moment = (rests g.S.ZoneStore c.args.self.now.zones.items c.args.self.now.pending.items (map kept_of old.zones) (λ x k h honest y left. g.met.S.ZoneStore.at_rest x k h honest y left) kept.zones_are);
+      honest = as_honest g.S.ZoneStore c.args.self.now.pending.items;
       next = old;
       stated = record nothing { noted = OutOfMemory };
       is = inr (record { takes = refl; noted = refl; accepted = refl; stays = inl (refl, refl, refl) });

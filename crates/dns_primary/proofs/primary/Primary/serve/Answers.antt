@@ -22,7 +22,7 @@ pub returns-in-Ignored-clause-step : goal.returns-in-Ignored-clause-step
 returns-in-Ignored-clause-step g c old kept =
     let octets = c.args.octets.now in
     on_any old c.args.self.now c.args.self.now c.nothing.result (request_lacks old c.args.to c.args.peer (handled (shown_zones old) octets c.args.transport)) (IsServedOrLacks old c.args.peer c.args.to octets c.args.transport)
-    (stays c.args.self.now old c.nothing.result nothing (IsServedOrLacks old c.args.peer c.args.to octets c.args.transport) (rests g.S.ZoneStore c.args.self.now.zones.items c.args.self.now.pending.items (map kept_of old.zones) (λ x k h y left. g.met.S.ZoneStore.at_rest x k h y left) kept.zones_are) kept c.nothing.ensures.effects_are
+    (stays c.args.self.now old c.nothing.result nothing (IsServedOrLacks old c.args.peer c.args.to octets c.args.transport) (rests g.S.ZoneStore c.args.self.now.zones.items c.args.self.now.pending.items (map kept_of old.zones) (λ x k h honest y left. g.met.S.ZoneStore.at_rest x k h honest y left) kept.zones_are) kept c.nothing.ensures.effects_are
     (served_as old old c.args.peer c.args.to octets c.args.transport request.Ignored [] nothing c.in-Ignored.ensures.request (refl, gives_none old)))
 
 pub returns-in-Refused-clause-step : goal.returns-in-Refused-clause-step
@@ -31,7 +31,7 @@ returns-in-Refused-clause-step g c old kept =
     let rcode = number_of_rcode c.in-Refused.rcode in
     let reply = λ (h : Header). Replied c.args.to (text (bare_reply h rcode)) in
     on_any old c.args.self.now c.args.self.now c.refusal.result (request_lacks old c.args.to c.args.peer (handled (shown_zones old) octets c.args.transport)) (IsServedOrLacks old c.args.peer c.args.to octets c.args.transport)
-    (stays c.args.self.now old c.refusal.result (one_reply (reply (header_of octets))) (IsServedOrLacks old c.args.peer c.args.to octets c.args.transport) (rests g.S.ZoneStore c.args.self.now.zones.items c.args.self.now.pending.items (map kept_of old.zones) (λ x k h y left. g.met.S.ZoneStore.at_rest x k h y left) kept.zones_are) kept
+    (stays c.args.self.now old c.refusal.result (one_reply (reply (header_of octets))) (IsServedOrLacks old c.args.peer c.args.to octets c.args.transport) (rests g.S.ZoneStore c.args.self.now.zones.items c.args.self.now.pending.items (map kept_of old.zones) (λ x k h honest y left. g.met.S.ZoneStore.at_rest x k h honest y left) kept.zones_are) kept
     (subst (λ (h : Header). AreEffects (one_reply (reply h)) c.refusal.result) c.in-Refused.ensures.of c.refusal.ensures)
     (served_as old old c.args.peer c.args.to octets c.args.transport (request.Refused rcode) [] (one_reply (reply (header_of octets))) c.in-Refused.ensures.request (refl, gives_one old (reply (header_of octets)))))
 
@@ -47,7 +47,7 @@ returns-in-NotServed-clause-step g c old kept =
     let header : header_of c.header_octets-header.result.now ≡ header_of octets = c.header_octets-header.ensures.octets ∙ ap header_of of in
     let none = subst (λ (h : Header). IfErr c.refuse.result (λ _. AreEffects (lack (Replied c.args.to (text (bare_reply h rcode_servfail)))) c.reply.result)) header c.reply.ensures.failed in
     on_any old c.args.self.now c.args.self.now c.reply.result (request_lacks old c.args.to c.args.peer (handled (shown_zones old) octets c.args.transport)) (IsServedOrLacks old c.args.peer c.args.to octets c.args.transport)
-    (replies_or_lacks c.args.self.now old c.reply.result c.args.peer c.args.to octets c.args.transport r reply c.in-NotServed.ensures.request (λ e. cc e) refl (rests g.S.ZoneStore c.args.self.now.zones.items c.args.self.now.pending.items (map kept_of old.zones) (λ x k h y left. g.met.S.ZoneStore.at_rest x k h y left) kept.zones_are) kept
+    (replies_or_lacks c.args.self.now old c.reply.result c.args.peer c.args.to octets c.args.transport r reply c.in-NotServed.ensures.request (λ e. cc e) refl (rests g.S.ZoneStore c.args.self.now.zones.items c.args.self.now.pending.items (map kept_of old.zones) (λ x k h honest y left. g.met.S.ZoneStore.at_rest x k h honest y left) kept.zones_are) kept
     (replied (λ v. v.items) c.refuse.result c.reply.result c.args.to reply (text (bare_reply (header_of octets) rcode_servfail)) is c.reply.ensures.sent none))
 
 pub returns-in-Query-clause-step : goal.returns-in-Query-clause-step
@@ -63,7 +63,7 @@ returns-in-Query-clause-step g c old kept =
     let header : header_of c.header_octets-header-in-Query.result.now ≡ header_of octets = c.header_octets-header-in-Query.ensures.octets ∙ ap header_of of in
     let none = subst (λ (h : Header). IfErr c.reply-in-Query.result (λ _. AreEffects (lack (Replied c.args.to (text (bare_reply h rcode_servfail)))) c.reply-in-Query-2.result)) header c.reply-in-Query-2.ensures.failed in
     on_any old c.args.self.now c.args.self.now c.reply-in-Query-2.result (request_lacks old c.args.to c.args.peer (handled (shown_zones old) octets c.args.transport)) (IsServedOrLacks old c.args.peer c.args.to octets c.args.transport)
-    (replies_or_lacks c.args.self.now old c.reply-in-Query-2.result c.args.peer c.args.to octets c.args.transport r reply c.in-Query.ensures.request (λ e. cc e) refl (rests g.S.ZoneStore c.args.self.now.zones.items c.args.self.now.pending.items (map kept_of old.zones) (λ x k h y left. g.met.S.ZoneStore.at_rest x k h y left) kept.zones_are) kept
+    (replies_or_lacks c.args.self.now old c.reply-in-Query-2.result c.args.peer c.args.to octets c.args.transport r reply c.in-Query.ensures.request (λ e. cc e) refl (rests g.S.ZoneStore c.args.self.now.zones.items c.args.self.now.pending.items (map kept_of old.zones) (λ x k h honest y left. g.met.S.ZoneStore.at_rest x k h honest y left) kept.zones_are) kept
     (replied (λ v. v.items) c.reply-in-Query.result c.reply-in-Query-2.result c.args.to reply (text (bare_reply (header_of octets) rcode_servfail)) is c.reply-in-Query-2.ensures.sent none))
 
 pub returns-in-Update-clause-step : goal.returns-in-Update-clause-step
@@ -82,6 +82,7 @@ returns-in-Update-clause-step g c old kept =
       fails = s.fails;
       failed = s.failed;
       any_moment = subst (λ (o : Option (ℕ × ℕ)). AtAnyMomentOf g.S.ZoneStore o old c.args.self.now.pending.items c.update.new.self.pending.items) lacked s.any_moment;
+      honest = s.honest;
       next = s.next;
       stated = s.stated;
       is = ⊎_elim (λ h. served_as old s.next c.args.peer c.args.to octets c.args.transport r s.fails s.stated e h)
@@ -106,6 +107,7 @@ returns-in-Transfer-clause-step g c old kept =
       fails = s.fails;
       failed = s.failed;
       any_moment = s.any_moment;
+      honest = s.honest;
       next = s.next;
       stated = s.stated;
       is = transferred_as old s.next c.args.peer c.args.to octets c.args.transport m t.question s.fails s.stated e (c.transfer.ensures.header ∙ ap header_of of)

@@ -137,40 +137,40 @@ returns-in-Err-clause-done g c m kept holds =
 
 pub returns-in_default-clause-still : goal.returns-in_default-clause-still
 returns-in_default-clause-still g c =
-    itself2 (λ a b. IsUntouched g.S.ZoneStore.moment g.S.ZoneStore.left_since g.S.ZoneStore.failed a.store b.store) c.args.self.now.pending.items (λ x. record { still = record { no_later = refl; same = λ t l left. left }; quiet = refl })
+    itself2 (λ a b. IsUntouched g.S.ZoneStore.moment g.S.ZoneStore.left_since g.S.ZoneStore.failed g.S.ZoneStore.is_honest a.store b.store) c.args.self.now.pending.items (λ x. record { still = record { no_later = refl; same = λ t l left. left }; quiet = refl; honest = (λ h. h, λ h. h) })
 
 pub returns-then-is_closed-clause-still : goal.returns-then-is_closed-clause-still
 returns-then-is_closed-clause-still g c =
-    let R = λ (a b : ZoneVersions g.row.I.Denot g.row.S.Denot). IsUntouched g.S.ZoneStore.moment g.S.ZoneStore.left_since g.S.ZoneStore.failed a.store b.store in
+    let R = λ (a b : ZoneVersions g.row.I.Denot g.row.S.Denot). IsUntouched g.S.ZoneStore.moment g.S.ZoneStore.left_since g.S.ZoneStore.failed g.S.ZoneStore.is_honest a.store b.store in
     let b = c.index_mut-versions.result.now in
     let new = b in
     changed2 R c.args.self.now.pending.items c.args.index b new
-    (λ x. record { still = record { no_later = refl; same = λ t l left. left }; quiet = refl })
-    (subst (λ (x : ZoneVersions g.row.I.Denot g.row.S.Denot). R x new) c.index_mut-versions.ensures.value (record { still = record { no_later = refl; same = λ t l left. left }; quiet = refl }))
+    (λ x. record { still = record { no_later = refl; same = λ t l left. left }; quiet = refl; honest = (λ h. h, λ h. h) })
+    (subst (λ (x : ZoneVersions g.row.I.Denot g.row.S.Denot). R x new) c.index_mut-versions.ensures.value (record { still = record { no_later = refl; same = λ t l left. left }; quiet = refl; honest = (λ h. h, λ h. h) }))
 
 pub returns-in-Unchanged-clause-still : goal.returns-in-Unchanged-clause-still
 returns-in-Unchanged-clause-still g c =
-    let R = λ (a b : ZoneVersions g.row.I.Denot g.row.S.Denot). IsUntouched g.S.ZoneStore.moment g.S.ZoneStore.left_since g.S.ZoneStore.failed a.store b.store in
+    let R = λ (a b : ZoneVersions g.row.I.Denot g.row.S.Denot). IsUntouched g.S.ZoneStore.moment g.S.ZoneStore.left_since g.S.ZoneStore.failed g.S.ZoneStore.is_honest a.store b.store in
     let b = c.index_mut-versions.result.now in
     let new = b in
     changed2 R c.args.self.now.pending.items c.args.index b new
-    (λ x. record { still = record { no_later = refl; same = λ t l left. left }; quiet = refl })
-    (subst (λ (x : ZoneVersions g.row.I.Denot g.row.S.Denot). R x new) c.index_mut-versions.ensures.value (record { still = record { no_later = refl; same = λ t l left. left }; quiet = refl }))
+    (λ x. record { still = record { no_later = refl; same = λ t l left. left }; quiet = refl; honest = (λ h. h, λ h. h) })
+    (subst (λ (x : ZoneVersions g.row.I.Denot g.row.S.Denot). R x new) c.index_mut-versions.ensures.value (record { still = record { no_later = refl; same = λ t l left. left }; quiet = refl; honest = (λ h. h, λ h. h) }))
 
 pub returns-in-Ok-stage-clause-still : goal.returns-in-Ok-stage-clause-still
 returns-in-Ok-stage-clause-still g c =
-    let R = λ (a b : ZoneVersions g.row.I.Denot g.row.S.Denot). IsUntouched g.S.ZoneStore.moment g.S.ZoneStore.left_since g.S.ZoneStore.failed a.store b.store in
+    let R = λ (a b : ZoneVersions g.row.I.Denot g.row.S.Denot). IsUntouched g.S.ZoneStore.moment g.S.ZoneStore.left_since g.S.ZoneStore.failed g.S.ZoneStore.is_honest a.store b.store in
     let b = c.index_mut-versions.result.now in
     let new = c.stage.new.self in
     changed2 R c.args.self.now.pending.items c.args.index b new
-    (λ x. record { still = record { no_later = refl; same = λ t l left. left }; quiet = refl })
-    (subst (λ (x : ZoneVersions g.row.I.Denot g.row.S.Denot). R x new) c.index_mut-versions.ensures.value (record { still = c.stage.ensures.still; quiet = c.stage.ensures.quiet }))
+    (λ x. record { still = record { no_later = refl; same = λ t l left. left }; quiet = refl; honest = (λ h. h, λ h. h) })
+    (subst (λ (x : ZoneVersions g.row.I.Denot g.row.S.Denot). R x new) c.index_mut-versions.ensures.value (record { still = c.stage.ensures.still; quiet = c.stage.ensures.quiet; honest = c.stage.ensures.honest }))
 
 pub returns-in-Err-clause-still : goal.returns-in-Err-clause-still
 returns-in-Err-clause-still g c =
-    let R = λ (a b : ZoneVersions g.row.I.Denot g.row.S.Denot). IsUntouched g.S.ZoneStore.moment g.S.ZoneStore.left_since g.S.ZoneStore.failed a.store b.store in
+    let R = λ (a b : ZoneVersions g.row.I.Denot g.row.S.Denot). IsUntouched g.S.ZoneStore.moment g.S.ZoneStore.left_since g.S.ZoneStore.failed g.S.ZoneStore.is_honest a.store b.store in
     let b = c.index_mut-versions.result.now in
     let new = c.stage.new.self in
     changed2 R c.args.self.now.pending.items c.args.index b new
-    (λ x. record { still = record { no_later = refl; same = λ t l left. left }; quiet = refl })
-    (subst (λ (x : ZoneVersions g.row.I.Denot g.row.S.Denot). R x new) c.index_mut-versions.ensures.value (record { still = c.stage.ensures.still; quiet = c.stage.ensures.quiet }))
+    (λ x. record { still = record { no_later = refl; same = λ t l left. left }; quiet = refl; honest = (λ h. h, λ h. h) })
+    (subst (λ (x : ZoneVersions g.row.I.Denot g.row.S.Denot). R x new) c.index_mut-versions.ensures.value (record { still = c.stage.ensures.still; quiet = c.stage.ensures.quiet; honest = c.stage.ensures.honest }))

@@ -12,7 +12,7 @@ returns-in-Datagram-clause-step g c old kept =
     let event = Datagram c.in-Datagram.peer c.in-Datagram.octets.now in
     let is : event_shown c.args.event ≡ event = ap event_shown c.in-Datagram.is in
     subst (λ (e : Event). SteppedBy old e c.args.self.now c.serve.new.self c.serve.result) (sym is)
-    (record { fails = s.fails; failed = s.failed; any_moment = s.any_moment; next = s.next; stated = s.stated; is = came old s.next c.in-Datagram.peer c.in-Datagram.octets.now s.fails s.stated s.is; effects_are = s.effects_are; kept = s.kept })
+    (record { fails = s.fails; failed = s.failed; any_moment = s.any_moment; honest = s.honest; next = s.next; stated = s.stated; is = came old s.next c.in-Datagram.peer c.in-Datagram.octets.now s.fails s.stated s.is; effects_are = s.effects_are; kept = s.kept })
 
 pub returns-in-Connect-clause-step : goal.returns-in-Connect-clause-step
 returns-in-Connect-clause-step g c old kept =
@@ -48,4 +48,4 @@ returns-in-Flush-clause-step g c old kept =
     let is : event_shown c.args.event ≡ Flush = ap event_shown c.in-Flush.is in
     subst (λ (e : Event). SteppedBy old e c.args.self.now c.flush.new.self c.flush.result) (sym is)
     (simple old Flush c.args.self.now c.flush.new.self c.flush.result (λ i. None)
-    (record { fails = s.fails; failed = s.failed; any_moment = s.any_moment; next = s.next; stated = s.stated; is = inl s.is; effects_are = s.effects_are; kept = s.kept }))
+    (record { fails = s.fails; failed = s.failed; any_moment = s.any_moment; honest = s.honest; next = s.next; stated = s.stated; is = inl s.is; effects_are = s.effects_are; kept = s.kept }))

@@ -28,6 +28,7 @@ returns-in-Ok-opened-clause-step g c old kept =
       fails = t.fails;
       failed = t.failed;
       any_moment = t.any_moment;
+      honest = t.honest;
       next = t.next;
       stated = t.stated;
       is = ⊎_elim (λ h. inl (h.0, (Ok s, o, h.1), h.2)) (λ h. inr (subst (λ (x : Header). LacksAlone t.fails old c.args.to x t.stated t.next) c.header_octets-header.ensures.message h)) t.is;
@@ -45,8 +46,8 @@ returns-in-Err-opened-clause-step g c old kept =
     let reply = Replied c.args.to (refusal_of (transport_of c.args.to) q.message.octets m q.question rcode) in
     let step = IsTransferredOrLacks old c.args.peer c.args.to q.message.octets m q.question in
     ⊎_elim
-    (λ h. stays p old c.refusal.result (one_reply reply) step (rests g.S.ZoneStore c.args.self.now.zones.items c.args.self.now.pending.items (map kept_of old.zones) (λ x k h y left. g.met.S.ZoneStore.at_rest x k h y left) kept.zones_are) kept h (inl (refl, (Err rcode, o, (refl, refl)), record { sent = refl; accepted = refl; noted = refl })))
-    (λ h. stays p old c.refusal.result (lack (Replied c.args.to (text (bare_reply m.header rcode_servfail)))) step (rests g.S.ZoneStore c.args.self.now.zones.items c.args.self.now.pending.items (map kept_of old.zones) (λ x k h y left. g.met.S.ZoneStore.at_rest x k h y left) kept.zones_are) kept h (inr (record { nothing = refl; stays = refl; is = refl })))
+    (λ h. stays p old c.refusal.result (one_reply reply) step (rests g.S.ZoneStore c.args.self.now.zones.items c.args.self.now.pending.items (map kept_of old.zones) (λ x k h honest y left. g.met.S.ZoneStore.at_rest x k h honest y left) kept.zones_are) kept h (inl (refl, (Err rcode, o, (refl, refl)), record { sent = refl; accepted = refl; noted = refl })))
+    (λ h. stays p old c.refusal.result (lack (Replied c.args.to (text (bare_reply m.header rcode_servfail)))) step (rests g.S.ZoneStore c.args.self.now.zones.items c.args.self.now.pending.items (map kept_of old.zones) (λ x k h honest y left. g.met.S.ZoneStore.at_rest x k h honest y left) kept.zones_are) kept h (inr (record { nothing = refl; stays = refl; is = refl })))
     c.refusal.ensures
 
 pub returns-in-Err-clause-step : goal.returns-in-Err-clause-step
@@ -54,6 +55,6 @@ returns-in-Err-clause-step g c old kept =
     let q = c.args.request.now in
     let m = q.message.message in
     let step = IsTransferredOrLacks old c.args.peer c.args.to q.message.octets m q.question in
-    stays c.args.self.now old c.out_of_memory.result (lack (Replied c.args.to (text (bare_reply m.header rcode_servfail)))) step (rests g.S.ZoneStore c.args.self.now.zones.items c.args.self.now.pending.items (map kept_of old.zones) (λ x k h y left. g.met.S.ZoneStore.at_rest x k h y left) kept.zones_are) kept
+    stays c.args.self.now old c.out_of_memory.result (lack (Replied c.args.to (text (bare_reply m.header rcode_servfail)))) step (rests g.S.ZoneStore c.args.self.now.zones.items c.args.self.now.pending.items (map kept_of old.zones) (λ x k h honest y left. g.met.S.ZoneStore.at_rest x k h honest y left) kept.zones_are) kept
     (subst (λ (h : Header). AreEffects (lack (Replied c.args.to (text (bare_reply h rcode_servfail)))) c.out_of_memory.result) c.header_octets-header.ensures.message c.out_of_memory.ensures)
     (inr (record { nothing = refl; stays = refl; is = refl }))

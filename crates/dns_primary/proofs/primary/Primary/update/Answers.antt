@@ -21,7 +21,7 @@ use Rattle.dns_primary.proofs.Moved.{on_any}
 use Rattle.dns_primary.proofs.Places.{long3_first, some_at}
 use Rattle.dns_primary.proofs.Follows.{begun_follows, planned_lacks, still_rejected, rejected_lacks}
 use Rattle.dns_primary.proofs.Roomy.{still_planned}
-use Rattle.dns_primary.proofs.Answered.{failed_then, moments_then, begun_with_memory}
+use Rattle.dns_primary.proofs.Answered.{failed_then, honest_then, moments_then, begun_with_memory}
 use Rattle.dns_primary.proofs.primary.Primary.update.Goals as goal
 
 pub returns-in_default-clause-step : goal.returns-in_default-clause-step
@@ -29,7 +29,7 @@ returns-in_default-clause-step g c old kept =
     let a = asked_of c.args.update.now in
     let reply = λ (h : Header). Replied c.args.update.now.to (text (bare_reply h rcode_servfail)) in
     on_any old c.args.self.now c.args.self.now c.out_of_memory.result (room_lacked old a) (IsUpdatedOrLacks old a)
-    (stays c.args.self.now old c.out_of_memory.result (lack (reply (header_of c.args.update.now.header.now))) (IsUpdatedOrLacks old a) (rests g.S.ZoneStore c.args.self.now.zones.items c.args.self.now.pending.items (map kept_of old.zones) (λ x k h y left. g.met.S.ZoneStore.at_rest x k h y left) kept.zones_are) kept c.out_of_memory.ensures
+    (stays c.args.self.now old c.out_of_memory.result (lack (reply (header_of c.args.update.now.header.now))) (IsUpdatedOrLacks old a) (rests g.S.ZoneStore c.args.self.now.zones.items c.args.self.now.pending.items (map kept_of old.zones) (λ x k h honest y left. g.met.S.ZoneStore.at_rest x k h honest y left) kept.zones_are) kept c.out_of_memory.ensures
     (inr (record { noted = refl; accepted = refl; stays = inl (refl, refl, ap (λ (h : Header). reply h ∷ []) c.requires.header) })))
 
 pub returns-in_default-plan-clause-step : goal.returns-in_default-plan-clause-step
@@ -37,7 +37,7 @@ returns-in_default-plan-clause-step g c old kept =
     let a = asked_of c.args.update.now in
     let reply = λ (h : Header). Replied c.args.update.now.to (text (bare_reply h rcode_servfail)) in
     on_any old c.args.self.now c.args.self.now c.out_of_memory-in_default-plan.result (room_lacked old a) (IsUpdatedOrLacks old a)
-    (stays c.args.self.now old c.out_of_memory-in_default-plan.result (lack (reply (header_of c.args.update.now.header.now))) (IsUpdatedOrLacks old a) (rests g.S.ZoneStore c.args.self.now.zones.items c.args.self.now.pending.items (map kept_of old.zones) (λ x k h y left. g.met.S.ZoneStore.at_rest x k h y left) kept.zones_are) kept c.out_of_memory-in_default-plan.ensures
+    (stays c.args.self.now old c.out_of_memory-in_default-plan.result (lack (reply (header_of c.args.update.now.header.now))) (IsUpdatedOrLacks old a) (rests g.S.ZoneStore c.args.self.now.zones.items c.args.self.now.pending.items (map kept_of old.zones) (λ x k h honest y left. g.met.S.ZoneStore.at_rest x k h honest y left) kept.zones_are) kept c.out_of_memory-in_default-plan.ensures
     (inr (record { noted = refl; accepted = refl; stays = inl (refl, refl, ap (λ (h : Header). reply h ∷ []) c.requires.header) })))
 
 pub returns-in-Err-clause-step : goal.returns-in-Err-clause-step
@@ -57,6 +57,7 @@ returns-in-Err-clause-step g c old kept =
       fails = placed.fails;
       failed = placed.failed;
       any_moment = placed.any_moment;
+      honest = placed.honest;
       next = ends.next;
       stated = answered_with placed.stated a (outcome.AtOnce c.in-Err.rcode);
       is = ends.is;
@@ -81,6 +82,7 @@ returns-then-lacks_memory-clause-step g c old kept =
       fails = b.fails;
       failed = b.failed;
       any_moment = b.any_moment;
+      honest = b.honest;
       next = b.next;
       stated = answered_with b.stated a outcome.OutOfMemory;
       is = inr (lacks_begun old b.next a b.fails b.stated b.is);
@@ -113,6 +115,7 @@ returns-clause-step g c old kept =
       fails = b.fails;
       failed = failed_then old self c.make_way-effects.new.self c.stage-outcome.new.self c.stage-outcome.ensures.still b.fails b.failed;
       any_moment = moments_then old self c.make_way-effects.new.self c.stage-outcome.new.self c.stage-outcome.ensures.still (room_lacked old a) b.any_moment;
+      honest = honest_then old self c.make_way-effects.new.self c.stage-outcome.new.self c.stage-outcome.ensures.still b.honest;
       next = ends.next;
       stated = answered_with b.stated a c.stage-outcome.result;
       is = ends.is;

@@ -1,6 +1,5 @@
 use Rattle.std.proofs.Common.{◌∙◌}
-use Rattle.dns_store.proofs.Places.{left_keeps}
 use Rattle.dns_store.proofs.kept_store.KeptStoreZoneStore.left.Goals as goal
 
 pub returns : goal.returns
-returns g c k kept = c.left.ensures.left ∙ left_keeps c.args.self.now.journal k k.closed kept.keeps
+returns g c k kept = c.left.ensures.left ∙ kept.memory.left_is

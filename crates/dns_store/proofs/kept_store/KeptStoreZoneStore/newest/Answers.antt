@@ -1,6 +1,5 @@
 use Rattle.std.proofs.Common.{◌∙◌}
-use Rattle.dns_store.proofs.Places.{number_keeps}
 use Rattle.dns_store.proofs.kept_store.KeptStoreZoneStore.newest.Goals as goal
 
 pub returns : goal.returns
-returns g c k kept = c.newest.ensures ∙ number_keeps c.args.self.now.journal k k.closed kept.keeps
+returns g c k kept = c.newest.ensures ∙ kept.memory.number_is
