@@ -3,7 +3,9 @@ use Rattle.std.proofs.Common.{◌≡◌, ℕ, Bool, true, false, List, [], ◌�
 use Rattle.std.specs.Prelude.{Option, Some, None, is_none, if◌then◌else◌}
 use Rattle.dns_names.specs.Name.{Labels}
 use Rattle.dns_zone.specs.Zone.{Zone}
-use Rattle.dns_lookup.specs.Lookup.{Found, chain, next_name, outcome, resolve, zone_of}
+use Rattle.dns_lookup.specs.Lookup.{Found, resolve, zone_of}
+use Rattle.dns_lookup.specs.Lent.{IsFirst}
+use Rattle.dns_lookup.specs.declared.chain.Found as returned
 use Rattle.dns_wire.specs.Message.{Message, Question}
 use Rattle.dns_wire.specs.Text.{Reply}
 use Rattle.dns_wire.specs.Building.{HasNoRecord}
@@ -14,37 +16,15 @@ use Rattle.dns_request.specs.Codes.{rcode_nxdomain, rcode_refused}
 use Rattle.dns_answer.specs.Sections.{additional_of, answer_of, authority_of, is_authoritative, is_name_error, records_of}
 use Rattle.dns_answer.specs.Answer.{with_question, with_sections, reply_for, answered}
 
--- something is found exactly where the name is under a held apex
-abbrev found_from : Option Zone → (Zone → Found) → (Zone → List Found) → List Found
-found_from o f rest = elim o as (λ _. List Found) [ None ↦ [] | Some z ↦ f z ∷ rest z ]
+-- the reply by the zone that answers for the name
+abbrev reply_by : List Zone → List ℕ → Message → Question → Option Zone → Reply
+reply_by zones octets m q zone = if is_none zone then with_question octets m q rcode_refused else reply_for octets m q (resolve zones q.name q.qtype)
 
-none_from : (o : Option Zone) (f : Zone → Found) (rest : Zone → List Found) → length (found_from o f rest) ≡ 0 → is_none o ≡ true
-none_from None f rest e = refl
-none_from (Some z) f rest e = absurd cc
+pub refused : (zones : List Zone) (octets : List ℕ) (m : Message) (q : Question) → zone_of zones q.name ≡ None → with_question octets m q rcode_refused ≡ answered zones octets m q
+refused zones octets m q e = ap (reply_by zones octets m q) (sym e)
 
-some_from : (o : Option Zone) (f : Zone → Found) (rest : Zone → List Found) → (length (found_from o f rest) ≡ 0 → ⊥) → is_none o ≡ false
-some_from None f rest e = absurd (e refl)
-some_from (Some z) f rest e = refl
-
-module _ (zones : List Zone) (name : Labels) (t : ℕ) where
-  abbrev first : Zone → Found
-  first z = record { zone = z; name = name; outcome = outcome z name t }
-
-  abbrev others : Zone → List Found
-  others z = elim (next_name (first z) ([] ++ name ∷ [])) as (λ _. List Found) [ None ↦ [] | Some target ↦ chain 7 zones ([] ++ name ∷ []) target t ]
-
-  pub outside : length (resolve zones name t) ≡ 0 → is_none (zone_of zones name) ≡ true
-  outside e = none_from (zone_of zones name) first others e
-
-  pub inside : (length (resolve zones name t) ≡ 0 → ⊥) → is_none (zone_of zones name) ≡ false
-  inside e = some_from (zone_of zones name) first others e
-
--- the reply where nothing is found, and where something is
-pub refused : (zones : List Zone) (octets : List ℕ) (m : Message) (q : Question) → length (resolve zones q.name q.qtype) ≡ 0 → with_question octets m q rcode_refused ≡ answered zones octets m q
-refused zones octets m q e = ap (λ (b : Bool). if b then with_question octets m q rcode_refused else reply_for octets m q (resolve zones q.name q.qtype)) (sym (outside zones q.name q.qtype e))
-
-pub answered-is : (zones : List Zone) (octets : List ℕ) (m : Message) (q : Question) → (length (resolve zones q.name q.qtype) ≡ 0 → ⊥) → reply_for octets m q (resolve zones q.name q.qtype) ≡ answered zones octets m q
-answered-is zones octets m q some = ap (λ (b : Bool). if b then with_question octets m q rcode_refused else reply_for octets m q (resolve zones q.name q.qtype)) (sym (inside zones q.name q.qtype some))
+pub answered-is : (zones : List Zone) (octets : List ℕ) (m : Message) (q : Question) (z : Zone) → zone_of zones q.name ≡ Some z → reply_for octets m q (resolve zones q.name q.qtype) ≡ answered zones octets m q
+answered-is zones octets m q z e = ap (reply_by zones octets m q) (sym e)
 
 -- a reply with no record, lent none
 pub bare : (r : Reply) (lent : LentSections) → HasNoRecord r → lent.answer.now ≡ [] → lent.authority.now ≡ [] → lent.additional.now ≡ [] → with_lent r r.aa lent ≡ r
@@ -69,3 +49,7 @@ replied octets m q fs r rcode aa lent is code authority =
     ap (λ (b : Reply). with_sections b q.qtype fs) is
     ∙ whole octets m q fs (with_question octets m q rcode) rcode aa refl code authority (records_of (answer_of q.qtype fs))
     (records_of (authority_of fs)) (additional_of (answer_of q.qtype fs ++ authority_of fs)) refl refl refl
+
+-- what the name of a question finds, and the name of the question
+pub first_as : (zones : List Zone) (t u : ℕ) (first : returned.Found) (name : Labels) → first.name ≡ name → t ≡ u → IsFirst zones t first → (z : Zone) × (zone_of zones name ≡ Some z)
+first_as zones t u first name named typed h = (h.zone, ap (zone_of zones) (sym named) ∙ h.closest)

@@ -1,5 +1,5 @@
 //! The reply to the one question of a query.
-ghost use Rattle.std.specs.Prelude.{◌≡◌, ◌<◌, List, length, IfOk};
+ghost use Rattle.std.specs.Prelude.{◌≡◌, ◌<◌, List, length, IfOk, IfSome};
 ghost use Rattle.dns_wire.specs.Message.{Question};
 ghost use Rattle.dns_wire.specs.Codes.{number_of_rcode};
 ghost use Rattle.dns_wire.specs.Reply.{stated};
@@ -8,7 +8,9 @@ ghost use Rattle.dns_wire.specs.Building.{HasNoRecord};
 ghost use Rattle.dns_lookup.specs.Lookup.{Found as Stated};
 ghost use Rattle.dns_lookup.specs.Represented.{RepresentAll};
 ghost use Rattle.dns_answer.specs.Answer.{with_question, answered, fitted};
-ghost use Rattle.dns_answer.specs.Echoes.{Echoes, AreReplyTo, AreReplyWithSections};
+ghost use Rattle.dns_lookup.specs.Lent.{IsFirst};
+ghost use Rattle.dns_request.specs.Codes.{rcode_refused};
+ghost use Rattle.dns_answer.specs.Echoes.{Echoes, AreReplyFor, AreReplyWithSections, IsReplyToFirst};
 ghost use Rattle.dns_answer.specs.Found.{IfFound};
 ghost use Rattle.dns_answer.specs.Short.{IsShortOf, with_lent};
 
@@ -16,12 +18,12 @@ use crate::codes::{is_authoritative, rcode_of};
 use crate::fit::{fit, fit_first_sections, fit_question, most_records};
 use crate::found_sections::{answer_count, server_count};
 use crate::sections::Sections;
-use crate::short::{LentSections, Short, only_record, short_reply};
-use dns_lookup::{Found, resolve};
+use crate::short::{LentSections, Short, lone_answer, short_reply};
+use dns_lookup::{Found, resolve, search};
 use dns_memory::Heap;
 use dns_names::NameRef;
 use dns_request::{RequestMessage, Transport};
-use dns_wire::{EchoedQuestion, Message, Opcode, Rcode, Reply};
+use dns_wire::{EchoedQuestion, Message, Opcode, Rcode, Reply, Writer};
 use dns_zone::{Zone, ZoneIndex};
 use std::alloc::AllocError;
 
@@ -140,22 +142,26 @@ fn reply_of_short<'a, I: ZoneIndex>(
     }
 }
 
-/// The reply to what a question finds, which is no single record. It is compiled apart, so that other queries
-/// don't pay for it.
+/// The reply to a question whose name was searched. It is compiled apart, so that questions that one record
+/// answers don't pay for it.
 #[inline(never)]
 fn reply_of_more<'a, I: ZoneIndex>(
     alloc: Heap,
     zones: &'a [Zone<I>],
     message: &Message<'_>,
     question: EchoedQuestion<'a>,
+    qtype: u16,
     transport: Transport,
-    found: &[Found<'a>],
+    first: Found<'a>,
 ) -> Result<Vec<u8, Heap>, AllocError>
     requires question { length question.octets.now < 65524 }
-    requires found { (fs : List Stated) × RepresentAll zones.now fs found.now }
+    requires first { IsFirst zones.now qtype first }
+    requires name { first.name ≡ question.name }
     ensures { IfOk result
-        (λ octets. AreReplyTo message.now question.entry zones.now found.now transport octets.items) }
+        (λ octets. AreReplyFor message.now question.entry zones.now qtype transport octets.items) }
 {
+    let searched = resolve(alloc, zones, first, qtype)?;
+    let found = searched.as_slice();
     let aa = is_authoritative(found);
     let bare = reply_with_question(message, question, aa, rcode_of(found), LentSections::none());
     let short = short_reply(alloc, zones, found);
@@ -165,36 +171,43 @@ fn reply_of_more<'a, I: ZoneIndex>(
     }
 }
 
-/// The reply to what a question finds (RFC 1034 section 4.3.2). Most are one record, and take no memory but
-/// for their octets.
-#[inline(always)]
-fn reply_to<'a, I: ZoneIndex>(
+/// The reply to a question whose name is under no held apex: REFUSED.
+#[inline(never)]
+fn reply_of_none(
     alloc: Heap,
-    zones: &'a [Zone<I>],
     message: &Message<'_>,
-    question: EchoedQuestion<'a>,
+    question: EchoedQuestion<'_>,
     transport: Transport,
-    found: &[Found<'a>],
 ) -> Result<Vec<u8, Heap>, AllocError>
     requires question { length question.octets.now < 65524 }
-    requires found { (fs : List Stated) × RepresentAll zones.now fs found.now }
-    ensures { IfOk result
-        (λ octets. AreReplyTo message.now question.entry zones.now found.now transport octets.items) }
+    ensures { IfOk result (λ octets. (q : Question)
+        → Echoes message.now.octets q question.entry
+        → octets.items ≡ fitted transport (with_question message.now.octets message.now.message q rcode_refused)) }
 {
-    match only_record(found) {
-        Some(one) => {
-            let bare = reply_with_question(
-                message,
-                question,
-                is_authoritative(found),
-                rcode_of(found),
-                LentSections::none(),
-            );
-            let short = Short::One(one);
-            reply_of_short(alloc, zones, bare, transport, found, &short)
-        }
-        None => reply_of_more(alloc, zones, message, question, transport, found),
-    }
+    let none = LentSections::none();
+    let mut reply = reply_with_question(message, question, false, Rcode::Refused, none);
+    fit(alloc, &mut reply, transport)
+}
+
+/// The reply to a question whose name was searched, if one record answers it and is written in one piece. Most
+/// questions are such, and their replies take no memory but for their octets.
+#[inline(always)]
+fn reply_of_one(
+    alloc: Heap,
+    message: &Message<'_>,
+    question: &EchoedQuestion<'_>,
+    first: &Found<'_>,
+) -> Result<Option<Vec<u8, Heap>>, AllocError>
+    requires { first.now.name ≡ question.now.name }
+    ensures { IfOk result
+        (λ reply. IfSome reply
+        (λ octets. IsReplyToFirst message.now question.now first.now octets.items)) }
+{
+    let Some(one) = lone_answer(first) else {
+        return Ok(None);
+    };
+    let desired = message.is_recursion_desired();
+    Writer::write_one(alloc, message.id(), desired, question, one)
 }
 
 /// The reply to a question: REFUSED where its name is under no held apex.
@@ -209,19 +222,15 @@ fn answer<'a, I: ZoneIndex>(
 ) -> Result<Vec<u8, Heap>, AllocError>
     requires { length question.octets.now < 65524 }
     ensures { IfOk result
-        (λ octets. (q : Question)
-        → Echoes message.now.octets q question.entry
-        → qtype ≡ q.qtype
-        → octets.items ≡ fitted transport (answered zones.now message.now.octets message.now.message q)) }
+        (λ octets. AreReplyFor message.now question.entry zones.now qtype transport octets.items) }
 {
-    let searched = resolve(alloc, zones, question.name.reborrow(), qtype)?;
-    let found = searched.as_slice();
-    if found.is_empty() {
-        let none = LentSections::none();
-        let mut reply = reply_with_question(message, question, false, Rcode::Refused, none);
-        return fit(alloc, &mut reply, transport);
+    let Some(first) = search(zones, question.name.reborrow(), qtype) else {
+        return reply_of_none(alloc, message, question, transport);
+    };
+    if let Some(octets) = reply_of_one(alloc, message, &question, &first)? {
+        return Ok(octets);
     }
-    reply_to(alloc, zones, message, question, transport, found)
+    reply_of_more(alloc, zones, message, question, qtype, transport, first)
 }
 
 /// The reply to a query whose name has capitals, which are lowered first. It is compiled apart, so that other

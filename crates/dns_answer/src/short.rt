@@ -3,6 +3,7 @@ ghost use Rattle.std.specs.Prelude.{◌≡◌, ℕ, [], ◌∷◌, List, IfOk, I
 ghost use Rattle.dns_zone.specs.Zone.{Zone as StatedZone};
 ghost use Rattle.dns_lookup.specs.Lookup.{Found as Stated};
 ghost use Rattle.dns_lookup.specs.Represented.{RepresentAll};
+ghost use Rattle.dns_lookup.specs.declared.outcome.Kind.TheVariants as kinds;
 ghost use Rattle.dns_answer.specs.Found.{IfFound};
 ghost use Rattle.dns_answer.specs.Short.{AreSectionsOf, IsShortOf, sections_of};
 
@@ -10,6 +11,7 @@ use crate::found_sections::{answers, searched, start_of_authority};
 use crate::with_address::{Pair, pair_of};
 use dns_lookup::{Found, Kind};
 use dns_memory::Heap;
+use dns_records::Record;
 use dns_wire::ReplyRecord;
 use dns_zone::{Zone, ZoneIndex};
 use std::alloc::AllocError;
@@ -92,23 +94,26 @@ impl<'a> Short<'a> {
     }
 }
 
-/// The record that is all that goes out for what was found: that of one name, with no host whose addresses
-/// would go with it.
-pub(crate) fn only_record<'a>(found: &[Found<'a>]) -> Option<ReplyRecord<'a>>
-    ensures { IfSome result
+/// The record that is all that goes out for a name that was searched: it was asked for, alone, and names no
+/// host whose addresses would go with it.
+#[inline(always)]
+pub(crate) fn lone_answer<'a>(first: &Found<'a>) -> Option<&'a Record>
+    ensures answers { IfSome result (λ _. first.now.kind ≡ kinds.Answers) }
+    ensures alone { IfSome result
         (λ r. (zones : List StatedZone)
-        → IfFound zones found.now (λ t fs. AreSectionsOf t fs (r ∷ []) [] [])) }
+        → IfFound zones (first.now ∷ [])
+        (λ t fs. AreSectionsOf t fs (record r.now { owner = first.now.name } ∷ []) [] [])) }
 {
-    let [one] = found else {
+    let Kind::Answers = first.kind else {
         return None;
     };
-    let [record] = answers(one) else {
+    let [record] = first.records else {
         return None;
     };
     if record.host().is_some() {
         return None;
     }
-    Some(ReplyRecord::new(one.name.reborrow(), record.ttl(), record))
+    Some(record)
 }
 
 /// The SOA that is all that goes out for what was found: one name, which has no data or does not exist (RFC
@@ -156,8 +161,7 @@ pub(crate) fn answers_alone<'a>(
     Ok(Some(shown))
 }
 
-/// What goes out for what a question found, unless it is one record: that is tested for before, by
-/// `only_record`.
+/// What goes out for what a question found.
 #[inline(always)]
 pub(crate) fn short_reply<'a, I: ZoneIndex>(
     alloc: Heap,

@@ -3,7 +3,7 @@ use dns_answer::reply;
 use dns_changes::ChangeError;
 use dns_commands::check;
 use dns_configuration::{DONE, FAILED, File};
-use dns_lookup::resolve;
+use dns_lookup::{resolve, search};
 use dns_masterfile::{FileError, read_zone};
 use dns_memory::Heap;
 use dns_names::{Name, NameError};
@@ -213,7 +213,10 @@ pub(crate) fn zone(heap: Heap) -> Result<Zone<RecordList>, Refused> {
 
 /// How many name servers are found at a name, by way of an alias.
 fn found_at(heap: Heap, zones: &[Zone<RecordList>], asked: &Name) -> Told {
-    let outcome = resolve(heap, zones, asked.lend(), types::NS)?;
+    let Some(first) = search(zones, asked.lend(), types::NS) else {
+        return Ok(0);
+    };
+    let outcome = resolve(heap, zones, first, types::NS)?;
     Ok(outcome.as_slice().len())
 }
 

@@ -5,7 +5,8 @@ use Rattle.dns_records.specs.Types.{type_ns, type_cname}
 use Rattle.dns_records.specs.Record.{Record}
 use Rattle.dns_zone.specs.Records.{rrset}
 use Rattle.dns_zone.specs.Zone.{Zone}
-use Rattle.dns_lookup.specs.Lookup.{asked_records}
+use Rattle.dns_lookup.specs.Lookup.{asked_records, outcome, zone_of}
+use Rattle.dns_lookup.specs.Represented.{Represents}
 use Rattle.dns_lookup.specs.declared.chain.Found.{Found}
 use Rattle.dns_lookup.specs.declared.outcome.Kind.{Kind}
 use Rattle.dns_lookup.specs.declared.outcome.Kind.TheVariants as kinds
@@ -29,3 +30,11 @@ Lends zones t returned =
 abbrev pub AllLend : List Zone → ℕ → List Found → Type 0
 AllLend zones t [] = Unit {0}
 AllLend zones t (returned ∷ rest) = Lends zones t returned × AllLend zones t rest
+
+-- What a name finds in the zone that answers for it.
+pub record IsFirst (zones : List Zone) (t : ℕ) (first : Found) : Type 0 where
+  pub zone : Zone
+  pub closest : zone_of zones first.name ≡ Some zone
+  pub represents : Represents zones
+      (record { zone = zone; name = first.name; outcome = outcome zone first.name t }) first
+  pub lends : Lends zones t first

@@ -6,7 +6,7 @@ use Rattle.dns_lookup.specs.Lookup.{Outcome, Referral, Alias, Answers, NoData, N
 use Rattle.dns_lookup.specs.Lookup as lookup
 use Rattle.dns_lookup.specs.declared.chain.Found.{Found}
 use Rattle.dns_lookup.specs.declared.chain.Outcome as returned
-use Rattle.dns_lookup.specs.declared.chain.Outcome.TheVariants.{Nothing, One, Chain}
+use Rattle.dns_lookup.specs.declared.chain.Outcome.TheVariants.{One, Chain}
 use Rattle.dns_lookup.specs.declared.outcome.Kind.{Kind}
 use Rattle.dns_lookup.specs.declared.outcome.Kind.TheVariants as kinds
 
@@ -37,6 +37,5 @@ names_searched returned = map (λ (f : Found). f.name) returned
 
 -- What is returned, as a list.
 abbrev pub all_searched : returned.Outcome → List Found
-all_searched Nothing = []
 all_searched (One found) = found ∷ []
 all_searched (Chain found) = found.items

@@ -3,7 +3,10 @@ use Rattle.std.proofs.Common.{◌≡◌, ℕ, zero, suc, ◌+◌, ◌<◌, List,
 use Rattle.std.proofs.Common.{sym, ap, subst, ◌∙◌, arith}
 use Rattle.dns_names.specs.Name.{Labels}
 use Rattle.dns_zone.specs.Zone.{Zone}
+use Rattle.std.specs.Prelude.{Option, Some, None}
 use Rattle.dns_lookup.specs.Lookup.{Outcome, Referral, Alias, Answers, NoData, NameError}
+use Rattle.dns_lookup.specs.Lookup.{chain, next_name, outcome, resolve, zone_of}
+use Rattle.dns_lookup.specs.Lent.{IsFirst}
 use Rattle.dns_lookup.specs.Lookup as lookup
 use Rattle.dns_lookup.specs.Represented.{IsKind, Represents, RepresentAll}
 use Rattle.dns_lookup.specs.declared.chain.Found.{Found}
@@ -60,3 +63,36 @@ represented_at zones (f ∷ fs) (t ∷ returned) (suc i) one h inside e =
       next = ap (λ (n : ℕ). take n (f ∷ fs)) up
           ∙ ap (λ (xs : List lookup.Found). f ∷ xs) rest.next;
     }
+
+-- a name that finds what was asked for is all that the question finds
+abbrev after_first : List Zone → ℕ → lookup.Found → Option Labels → List lookup.Found
+after_first zones t f next =
+    f ∷ elim next [ None ↦ [] | Some target ↦ chain 7 zones ([] ++ f.name ∷ []) target t ]
+
+no_alias : (f : lookup.Found) (kind : Kind) (at : Labels) (seen : List Labels)
+    → f.outcome ≡ outcome_of kind at
+    → kind ≡ kinds.Answers
+    → next_name f seen ≡ None
+no_alias f kind at seen is answers =
+    ap (λ (o : Outcome). next_name (record f { outcome = o }) seen) (is ∙ ap (λ (k : Kind). outcome_of k at) answers)
+
+abbrev first_in : Labels → ℕ → Zone → lookup.Found
+first_in name t z = record { zone = z; name = name; outcome = outcome z name t }
+
+abbrev by_zone : List Zone → Labels → ℕ → Option Zone → List lookup.Found
+by_zone zones name t o = elim o [
+  | None ↦ []
+  | Some z ↦ after_first zones t (first_in name t z) (next_name (first_in name t z) ([] ++ name ∷ []))
+]
+
+pub alone : (zones : List Zone) (t : ℕ) (first : Found)
+    → IsFirst zones t first
+    → first.kind ≡ kinds.Answers
+    → RepresentAll zones (resolve zones first.name t) (first ∷ [])
+alone zones t first h answers =
+    let f = first_in first.name t h.zone in
+    let is = represented_is f.outcome f.name first.kind first.node h.represents.kind in
+    let none = no_alias f first.kind first.node ([] ++ first.name ∷ []) is answers in
+    let all : resolve zones first.name t ≡ f ∷ [] =
+    ap (by_zone zones first.name t) h.closest ∙ ap (after_first zones t f) none in
+    subst (λ (fs : List lookup.Found). RepresentAll zones fs (first ∷ [])) (sym all) (h.represents, tt)

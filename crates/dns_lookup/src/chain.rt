@@ -9,7 +9,7 @@ ghost use Rattle.dns_zone.specs.Records.{rrset, owns_type};
 ghost use Rattle.dns_lookup.specs.Lookup.{Found as Stated, outcome, zone_of, alias_at, next_name, chain};
 ghost use Rattle.dns_lookup.specs.Lookup.{resolve};
 ghost use Rattle.dns_lookup.specs.Represented.{Represents, RepresentAll, names_searched, all_searched};
-ghost use Rattle.dns_lookup.specs.Lent.{Lends, AllLend};
+ghost use Rattle.dns_lookup.specs.Lent.{Lends, AllLend, IsFirst};
 
 use crate::node::Node;
 use crate::outcome::{Kind, outcome};
@@ -40,8 +40,6 @@ pub struct Found<'a> {
 /// The names that were searched, one after the other. One alone is stored in place, and takes no memory.
 #[derive(Drop)]
 pub enum Outcome<'a> {
-    /// None: the question's name is under no apex.
-    Nothing,
     /// That of the question alone.
     One(Found<'a>),
     /// That of the question, which is an alias, and those after it.
@@ -54,7 +52,6 @@ impl<'a> Outcome<'a> {
         ensures { result.now ≡ all_searched self.now }
     {
         match self {
-            Outcome::Nothing => &[],
             Outcome::One(found) => slice::from_ref(found),
             Outcome::Chain(found) => found.as_slice(),
         }
@@ -64,9 +61,9 @@ impl<'a> Outcome<'a> {
 /// At most so many names are searched.
 const MOST: usize = 8;
 
-/// What the name finds in the closest zone.
+/// What the name finds in the closest zone, if it is under an apex.
 #[inline(always)]
-fn search<'a, I: ZoneIndex>(
+pub fn search<'a, I: ZoneIndex>(
     zones: &'a [Zone<I>],
     name: NameRef<'a>,
     qtype: u16,
@@ -168,25 +165,23 @@ fn follow<'a, I: ZoneIndex>(
     Ok(found)
 }
 
-/// What a question finds: the name, and then the target of each alias, each in the closest zone (RFC 1034
-/// section 4.3.2). The list ends after a name that is no alias, before a target that was searched already,
-/// before a name under no apex, and after eight names; it is empty where the question's name is under no
-/// apex. Memory is taken for the list alone, and only where the question's name is an alias.
+/// What a question finds whose name was searched: that name, and then the target of each alias, each in the
+/// closest zone (RFC 1034 section 4.3.2). The list ends after a name that is no alias, before a target that
+/// was searched already, before a name under no apex, and after eight names. Memory is taken for the list
+/// alone, and only if the question's name is an alias.
 #[inline(always)]
 pub fn resolve<'a, I: ZoneIndex>(
     alloc: Heap,
     zones: &'a [Zone<I>],
-    name: NameRef<'a>,
+    first: Found<'a>,
     qtype: u16,
 ) -> Result<Outcome<'a>, AllocError>
+    requires { IsFirst zones.now qtype first }
     ensures represents { IfOk result
-        (λ found. RepresentAll zones.now (resolve zones.now name.entry qtype) (all_searched found)) }
+        (λ found. RepresentAll zones.now (resolve zones.now first.entry.name qtype) (all_searched found)) }
     ensures lent { IfOk result (λ found. AllLend zones.now qtype (all_searched found)) }
     ensures most { IfOk result (λ found. length (all_searched found) ≤ 8) }
 {
-    let Some(first) = search(zones, name, qtype) else {
-        return Ok(Outcome::Nothing);
-    };
     let Some(target) = next_name(&first, &[]) else {
         return Ok(Outcome::One(first));
     };

@@ -1,16 +1,16 @@
 //! A record written after a message's octets, its names compressed.
-ghost use Rattle.std.specs.Prelude.{◌≡◌, ℕ, ◌+◌, ◌-◌, ◌<◌, ◌≤◌, List, [], ◌∷◌, ◌++◌, length};
+ghost use Rattle.std.specs.Prelude.{◌≡◌, false, ℕ, ◌+◌, ◌-◌, ◌<◌, ◌≤◌, List, [], ◌∷◌, ◌++◌, length};
 ghost use Rattle.std.specs.Prelude.{take, drop, IfErr};
 ghost use Rattle.std.specs.Prelude.{IfSome, OnOk};
 ghost use Rattle.std.specs.Int.{w16, to_be_bytes as be_octets};
 ghost use Rattle.dns_names.specs.Name.{labels_of, wire};
 ghost use Rattle.dns_names.specs.Plain.{IsPlain};
-ghost use Rattle.dns_records.specs.Record.{AreFields};
+ghost use Rattle.dns_records.specs.Record.{AreFields, Record};
 ghost use Rattle.dns_records.specs.Types.{Value, Values, Name};
 ghost use Rattle.dns_records.specs.Typed.{is_name_type};
 ghost use Rattle.std.specs.List.{list_any};
 ghost use Rattle.dns_records.specs.Fields.{stated_field, stated_fields};
-ghost use Rattle.dns_wire.specs.Compress.{compressed_fields, compressed_rdata, compressed_record};
+ghost use Rattle.dns_wire.specs.Compress.{Place, compressed_fields, compressed_rdata, compressed_record};
 ghost use Rattle.dns_wire.specs.Puts.{Wrote, RefusesUpTo, BeginsWithName, fixed_octets, compressed_all};
 ghost use Rattle.dns_wire.specs.Puts.{address_octets, is_name, plain_octets};
 
@@ -69,6 +69,18 @@ fn have_name(fields: &[Field]) -> bool
     ensures { result ≡ list_any (λ f. is_name (stated_field f)) fields.now }
 {
     fields.iter().any(|field| matches!(field, Field::Name))
+}
+
+/// Whether the data of a type may hold a name that a message compresses.
+#[inline(always)]
+pub(crate) fn may_hold_name(rtype: u16) -> bool
+    ensures { result ≡ false → (r : Record) (places : List Place) (at : ℕ) → r.rtype ≡ rtype
+        → compressed_rdata places at r ≡ plain_octets places r.rdata }
+{
+    match form(rtype) {
+        Some(fields) => have_name(fields),
+        None => false,
+    }
 }
 
 /// Whether the data of the type is one name, which a message may compress.

@@ -1,9 +1,14 @@
-use Rattle.std.proofs.Common.{ap, ◌∙◌}
+use Rattle.std.proofs.Common.{◌≡◌, ℕ, List, sym, ap, subst, ◌∙◌}
 use Rattle.std.proofs.lemmas.Result.{IfOk-weaker}
+use Rattle.dns_lookup.specs.Lookup.{resolve, zone_of}
+use Rattle.dns_lookup.specs.Lookup as lookup
+use Rattle.dns_lookup.specs.Represented.{RepresentAll}
+use Rattle.dns_lookup.specs.Lent.{AllLend}
+use Rattle.dns_lookup.specs.declared.chain.Found.{Found}
 use Rattle.dns_wire.specs.Codes.{number_of_rcode}
 use Rattle.dns_wire.specs.Reply.{stated}
-use Rattle.dns_answer.specs.Answer.{fitted}
-use Rattle.dns_answer.proofs.Replies.{replied}
+use Rattle.dns_answer.specs.Answer.{fitted, reply_for}
+use Rattle.dns_answer.proofs.Replies.{answered-is, replied}
 use Rattle.dns_answer.proofs.question.reply_of_more.Goals as goal
 
 pub reply_of_short-requires-clause-bare : goal.reply_of_short-requires-clause-bare
@@ -13,11 +18,22 @@ reply_of_short-requires-clause-bare g c =
     record { answer = made.answer ∙ none.answer; authority = made.authority ∙ none.authority; additional = made.additional ∙ none.additional }
 
 pub returns-in-Ok : goal.returns-in-Ok
-returns-in-Ok g c = IfOk-weaker c.reply_of_short.result _ _ (λ out e q fs echoes are holds.
-    let message = c.args.message.now in
+returns-in-Ok g c = IfOk-weaker c.reply_of_short.result _ _ (λ out e q echoes typed.
+    let m = c.args.message.now in
     let zones = c.args.zones.now in
+    let first = c.args.first in
+    let t = c.args.qtype in
+    let fs = resolve zones first.name t in
+    let found = c.as_slice-found.result.now in
+    let are = subst (λ (ones : List Found). RepresentAll zones fs ones) (sym c.as_slice-found.ensures) c.in_ok-searched.ensures.represents in
+    let lent = subst (λ (ones : List Found). AllLend zones t ones) (sym c.as_slice-found.ensures) c.in_ok-searched.ensures.lent in
+    let stored : AllLend zones q.qtype found = subst (λ (n : ℕ). AllLend zones n found) typed lent in
+    let same : fs ≡ resolve zones q.name q.qtype = λ i. resolve zones ((c.requires.name ∙ echoes.name_as) i) (typed i) in
     let made = c.reply_with_question-bare in
     let rcode = number_of_rcode c.rcode_of.result in
-    e q.qtype fs are holds
-    ∙ ap (fitted c.args.transport) (replied message.octets message.message q fs (stated made.result) rcode c.is_authoritative-aa.result c.none.result
-    (made.ensures.stated q echoes) (c.rcode_of.ensures zones fs are) (c.is_authoritative-aa.ensures zones fs are))) c.reply_of_short.ensures
+    let closest = ap (zone_of zones) (sym (c.requires.name ∙ echoes.name_as)) ∙ c.requires.first.closest in
+    e q.qtype fs are stored
+    ∙ ap (fitted c.args.transport) (replied m.octets m.message q fs (stated made.result) rcode c.is_authoritative-aa.result c.none.result
+    (made.ensures.stated q echoes) (c.rcode_of.ensures zones fs are) (c.is_authoritative-aa.ensures zones fs are))
+    ∙ ap (λ (found : List lookup.Found). fitted c.args.transport (reply_for m.octets m.message q found)) same
+    ∙ ap (fitted c.args.transport) (answered-is zones m.octets m.message q c.requires.first.zone closest)) c.reply_of_short.ensures
