@@ -116,6 +116,25 @@ pub(crate) fn lone_answer<'a>(first: &Found<'a>) -> Option<&'a Record>
     Some(record)
 }
 
+/// The record that is all that goes out for what was found: that of one name, with no host whose addresses
+/// would go with it.
+fn only_record<'a>(found: &[Found<'a>]) -> Option<ReplyRecord<'a>>
+    ensures { IfSome result
+        (λ r. (zones : List StatedZone)
+        → IfFound zones found.now (λ t fs. AreSectionsOf t fs (r ∷ []) [] [])) }
+{
+    let [one] = found else {
+        return None;
+    };
+    let [record] = answers(one) else {
+        return None;
+    };
+    if record.host().is_some() {
+        return None;
+    }
+    Some(ReplyRecord::new(one.name.reborrow(), record.ttl(), record))
+}
+
 /// The SOA that is all that goes out for what was found: one name, which has no data or does not exist (RFC
 /// 2308 section 2).
 pub(crate) fn only_soa<'a, I: ZoneIndex>(
@@ -173,6 +192,9 @@ pub(crate) fn short_reply<'a, I: ZoneIndex>(
 {
     if let Some(one) = only_soa(zones, found) {
         return Ok(Short::Soa(one));
+    }
+    if let Some(one) = only_record(found) {
+        return Ok(Short::One(one));
     }
     if let Some(pair) = pair_of(zones, found) {
         return Ok(Short::Pair(pair));
