@@ -22,6 +22,9 @@ const REACH: usize = 16384;
 /// How many heads a table has.
 const HEADS: usize = 1024;
 
+/// For how many targets a table has room at first.
+const AT_FIRST: usize = 256;
+
 /// What a number is multiplied by, odd and without a pattern.
 const FACTOR: u64 = 11400714819323198485;
 
@@ -206,25 +209,28 @@ fn link_at(heads: &[usize], head: usize) -> usize
     if head < heads.len() { heads[head] } else { 0 }
 }
 
-/// Makes the heads, none of which has a target.
+/// Makes the heads, none of which has a target, and room for targets.
 #[cold]
 #[inline(never)]
-fn make(heads: &mut Vec<usize, Heap>) -> Result<(), AllocError>
+fn make(linked: &mut Vec<Linked<'_>, Heap>, heads: &mut Vec<usize, Heap>) -> Result<(), AllocError>
     requires { length heads.old.items < 1024 }
     ensures there { OnOk result (length heads.new.items ≡ 1024) }
     ensures same { (head : ℕ) → get_or heads.new.items head 0 ≡ get_or heads.old.items head 0 }
+    ensures linked { linked.new.items ≡ linked.old.items }
 {
+    linked.reserve(AT_FIRST)?;
     heads.resize(HEADS, 0)
 }
 
 /// Makes the heads, if there are none.
 #[inline(always)]
-fn reach(heads: &mut Vec<usize, Heap>) -> Result<(), AllocError>
+fn reach(linked: &mut Vec<Linked<'_>, Heap>, heads: &mut Vec<usize, Heap>) -> Result<(), AllocError>
     ensures there { OnOk result (1024 ≤ length heads.new.items) }
     ensures same { (head : ℕ) → get_or heads.new.items head 0 ≡ get_or heads.old.items head 0 }
+    ensures linked { linked.new.items ≡ linked.old.items }
 {
     if heads.len() < HEADS {
-        return make(heads);
+        return make(linked, heads);
     }
     Ok(())
 }
@@ -304,7 +310,7 @@ impl<'a> Table<'a> {
             (self.new ≡ self.old ++ record { offset = offset; suffix = labels_of suffix.now } ∷ []) }
         ensures refused { OnErr result (self.new ≡ self.old) }
     {
-        reach(&mut self.heads)?;
+        reach(&mut self.linked, &mut self.heads)?;
         let head = head_of(number);
         let target = Target { offset, suffix };
         let next = self.heads[head];
@@ -464,25 +470,9 @@ impl<'a> Places<'a> {
         self.first = name;
     }
 
-    /// An offset at which a suffix with a label occurs, where it is found without a search of the targets
-    /// that take memory.
-    pub(crate) fn find(&self, suffix: &[u8]) -> Option<usize>
-        requires { IsPlain suffix.now }
-        ensures position { IfSome result (λ found. Some found ≡ offset_at self.now (labels_of suffix.now)) }
-        ensures low { IfSome result (λ found. found < 16384) }
-        ensures some { IfSome result (λ _. 1 < length suffix.now) }
-    {
-        if suffix.len() <= 1 {
-            return None;
-        }
-        if let Some(found) = place_within(self.first, suffix) {
-            return Some(found);
-        }
-        place_of(self.few.as_slice(), suffix)
-    }
-
     /// The least offset at which a suffix occurs. Where it occurs nowhere, it is noted that it occurs at this
     /// one, if a pointer can name that.
+    #[inline(always)]
     pub(crate) fn find_or_keep(
         &mut self,
         offset: usize,
