@@ -26,8 +26,8 @@ const SPARE: usize = 512;
 /// A transfer has many targets: none is searched one by one, but those of the question's name.
 const FEW_PLACES: usize = 0;
 
-/// So many octets of room for one record that is counted: most have fewer than twice as many.
-const PER_RECORD: usize = 64;
+/// Few records have fewer octets, so that there is room for all that fit: to make more is to move all.
+const PER_RECORD: usize = 16;
 
 /// What a message says so far, and its octets.
 #[derive(Drop)]

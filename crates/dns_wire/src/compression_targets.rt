@@ -1,6 +1,7 @@
 //! The targets that pointers can name: where a suffix was written before (RFC 1035 section 4.1.4).
 ghost use Rattle.std.specs.Prelude.{◌≡◌, ◌<◌, ◌≤◌, ℕ, List, [], ◌∷◌, ◌++◌, length, get_or, IfOk, IfSome};
 ghost use Rattle.std.specs.Prelude.{MatchOption, None, OnErr, OnOk, Some};
+ghost use Rattle.std.specs.Str.{bytes_eq};
 ghost use Rattle.dns_names.specs.Name.{labels_of, names_eq};
 ghost use Rattle.dns_names.specs.Plain.{IsPlain};
 ghost use Rattle.dns_wire.specs.Compress.{Place, new_places};
@@ -22,14 +23,36 @@ const REACH: usize = 16384;
 /// How many heads a table has.
 const HEADS: usize = 1024;
 
-/// For how many targets a table has room at first.
-const AT_FIRST: usize = 256;
+/// For how many targets a table has room at first: few messages have more, and to make room is to move all.
+const AT_FIRST: usize = 1024;
 
 /// What a number is multiplied by, odd and without a pattern.
 const FACTOR: u64 = 11400714819323198485;
 
 /// What a number is divided by, so that its ten highest bits are left.
 const HIGHEST: u64 = 18014398509481984;
+
+/// Whether octets are the same: most names are short, so that few words of eight octets are compared.
+#[inline(always)]
+fn same(octets: &[u8], others: &[u8]) -> bool
+    ensures { result ≡ bytes_eq octets.now others.now }
+{
+    if octets.len() != others.len() {
+        return false;
+    }
+    let (mut rest, mut other) = (octets, others);
+    'words: while let Some((word, behind)) = rest.split_first_chunk::<8>() {
+        let Some((its, after)) = other.split_first_chunk::<8>() else {
+            return false;
+        };
+        if *word != *its {
+            return false;
+        }
+        rest = behind;
+        other = after;
+    }
+    rest == other
+}
 
 /// Where a suffix of an earlier name occurs: the plain form of the suffix is lent.
 #[derive(Drop)]
@@ -67,7 +90,7 @@ impl<'a> Target<'a> {
         requires { IsPlain suffix.now }
         ensures { result ≡ names_eq self.now.suffix (labels_of suffix.now) }
     {
-        self.suffix == suffix
+        same(self.suffix, suffix)
     }
 
     /// Where it occurs.
