@@ -493,6 +493,23 @@ impl<'a> Places<'a> {
         self.first = name;
     }
 
+    /// An offset at which a suffix with a label occurs, where it is found without a search of the targets
+    /// that take memory.
+    pub(crate) fn find(&self, suffix: &[u8]) -> Option<usize>
+        requires { IsPlain suffix.now }
+        ensures position { IfSome result (λ found. Some found ≡ offset_at self.now (labels_of suffix.now)) }
+        ensures low { IfSome result (λ found. found < 16384) }
+        ensures some { IfSome result (λ _. 1 < length suffix.now) }
+    {
+        if suffix.len() <= 1 {
+            return None;
+        }
+        if let Some(found) = place_within(self.first, suffix) {
+            return Some(found);
+        }
+        place_of(self.few.as_slice(), suffix)
+    }
+
     /// The least offset at which a suffix occurs. Where it occurs nowhere, it is noted that it occurs at this
     /// one, if a pointer can name that.
     #[inline(always)]

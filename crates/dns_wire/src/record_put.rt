@@ -12,7 +12,7 @@ ghost use Rattle.std.specs.List.{list_any};
 ghost use Rattle.dns_records.specs.Fields.{stated_field, stated_fields};
 ghost use Rattle.dns_wire.specs.Compress.{compressed_fields, compressed_rdata, compressed_record};
 ghost use Rattle.dns_wire.specs.Puts.{Wrote, RefusesUpTo, BeginsWithName, fixed_octets, compressed_all};
-ghost use Rattle.dns_wire.specs.Puts.{IsBehindLabels, address_octets, is_name};
+ghost use Rattle.dns_wire.specs.Puts.{IsBehindLabels, address_octets, is_name, plain_octets};
 
 use crate::compressor::Compressor;
 use crate::name::POINTER_BITS;
@@ -209,9 +209,25 @@ impl<'a> Compressor<'a> {
         self.put_by_form(one)
     }
 
-    /// Writes a record (RFC 1035 section 4.1.3).
-    #[inline(never)]
-    pub(crate) fn put_record(&mut self, one: &ReplyRecord<'a>) -> Result<(), WriteError>
+    /// All octets of a record that is an address whose owner is found without a search of the targets that
+    /// take memory. Most records of replies are such.
+    fn known_address(&self, one: &ReplyRecord<'_>) -> Option<[u8; 16]>
+        ensures { IfSome result
+            (λ octets. (at : ℕ) → compressed_record self.now.places at one.now
+            ≡ plain_octets self.now.places octets) }
+    {
+        let rdata = one.rdata();
+        if one.rtype() != A || rdata.len() != 4 {
+            return None;
+        }
+        let owner = one.owner();
+        let offset = self.places.find(owner.as_wire())?;
+        Some(address_octets(offset, one.ttl(), rdata))
+    }
+
+    /// Writes a record, the labels of its owner first.
+    #[inline(always)]
+    fn put_by_labels(&mut self, one: &ReplyRecord<'a>) -> Result<(), WriteError>
         requires room { length self.old.octets.items ≤ self.old.limit }
         requires small { self.old.limit < 65536 }
         ensures written { OnOk result
@@ -232,6 +248,25 @@ impl<'a> Compressor<'a> {
         self.put_rdata(one)?;
         self.put_size(start);
         Ok(())
+    }
+
+    /// Writes a record (RFC 1035 section 4.1.3).
+    #[inline(never)]
+    pub(crate) fn put_record(&mut self, one: &ReplyRecord<'a>) -> Result<(), WriteError>
+        requires room { length self.old.octets.items ≤ self.old.limit }
+        requires small { self.old.limit < 65536 }
+        ensures written { OnOk result
+            (Wrote self.old.limit self.old.octets.items self.new.octets.items self.new.limit self.new.places
+            (compressed_record self.old.places (length self.old.octets.items) one.now)) }
+        ensures refused { IfErr result
+            (RefusesUpTo self.old.limit
+            (length self.old.octets.items
+            + length (compressed_record self.old.places (length self.old.octets.items) one.now).octets)) }
+    {
+        if let Some(octets) = self.known_address(one) {
+            return self.put(&octets);
+        }
+        self.put_by_labels(one)
     }
 
     /// Writes records one after the other. Most sections have none, which costs no call.

@@ -7,8 +7,8 @@ use Rattle.dns_wire.specs.Puts.{RefusesUpTo, Wrote, WroteLabels, behind_owner, f
 use Rattle.dns_wire.proofs.Exits.{err_exit, on_ok}
 use Rattle.dns_wire.proofs.Puts.{refuses_last, refuses_part, wrote_last}
 use Rattle.dns_wire.proofs.RecordsPut.{after_labels, record_left, record_octets, record_places, sized_length, start_of}
-use Rattle.dns_wire.proofs.compressor.Compressor.put_record.Goals as goal
-use Rattle.dns_wire.proofs.compressor.Compressor.put_record.Goals.{In_ok-found}
+use Rattle.dns_wire.proofs.compressor.Compressor.put_by_labels.Goals as goal
+use Rattle.dns_wire.proofs.compressor.Compressor.put_by_labels.Goals.{In_ok-found}
 
 -- the labels of the owner are written
 labelled : (c : In_ok-found) → WroteLabels c.args.self.now.limit c.args.self.now.octets.items c.put_labels.new.self.octets.items c.put_labels.new.self.limit c.put_labels.new.self.places (compressed_name c.args.self.now.places (length c.args.self.now.octets.items) c.args.one.now.owner) c.in_ok-found.found
