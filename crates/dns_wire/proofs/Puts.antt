@@ -1,8 +1,8 @@
 -- Octets that are written piece by piece.
-use Rattle.std.proofs.Common.{◌≡◌, ℕ, ◌+◌, ◌≤◌, List, [], ◌++◌, length, refl, sym, ap, subst, ◌∙◌, arith, append_assoc}
+use Rattle.std.proofs.Common.{◌≡◌, ℕ, ◌+◌, ◌≤◌, List, [], ◌++◌, length, Option, refl, sym, ap, subst, ◌∙◌, arith, append_assoc}
 use Rattle.std.proofs.lemmas.List.{length-append, append-nil}
 use Rattle.dns_wire.specs.Compress.{Place, Compressing}
-use Rattle.dns_wire.specs.Puts.{Wrote, RefusesUpTo}
+use Rattle.dns_wire.specs.Puts.{Wrote, WroteLabels, RefusesUpTo, name_end}
 use Rattle.dns_wire.specs.declared.WriteError.{WriteError}
 use Rattle.dns_wire.specs.declared.WriteError.TheVariants.{OutOfMemory, DoesNotFit}
 
@@ -23,6 +23,10 @@ leaves_next before whole octets rest places more tail after e grown h = record {
 -- the same octets and table, otherwise written
 pub leaves_as : (before : List ℕ) (whole : Compressing) (octets rest rest' : List ℕ) (places places' : List Place) → rest ≡ rest' → places ≡ places' → Leaves before whole octets rest places → Leaves before whole octets rest' places'
 leaves_as before whole octets rest rest' places places' e f h = record { octets-are = h.octets-are ∙ ap (λ (xs : List ℕ). octets ++ xs) e; places-are = h.places-are ∙ f }
+
+-- the end of a name is to come after its labels
+pub labels_leave : (limit : ℕ) (before octets : List ℕ) (now : ℕ) (places : List Place) (whole : Compressing) (found : Option ℕ) → WroteLabels limit before octets now places whole found → Leaves before whole octets (name_end found) places
+labels_leave limit before octets now places whole found h = record { octets-are = h.octets; places-are = sym h.places }
 
 -- what was to come was written
 pub wrote_last : (limit : ℕ) (before : List ℕ) (whole : Compressing) (octets rest : List ℕ) (places : List Place) (now : ℕ) (after : List ℕ) (limit' : ℕ) (places' : List Place) (last : Compressing) → last.octets ≡ rest → last.places ≡ places → now ≡ limit

@@ -1,14 +1,14 @@
 -- Records, written one after the other.
-use Rattle.std.proofs.Common.{◌≡◌, ℕ, suc, ◌+◌, ◌-◌, ◌<◌, ◌≤◌, List, [], ◌∷◌, ◌++◌, length, take, drop, get_or, refl, sym, ap, ◌∙◌, arith, append_assoc}
+use Rattle.std.proofs.Common.{◌≡◌, ℕ, suc, ◌+◌, ◌-◌, ◌<◌, ◌≤◌, List, [], ◌∷◌, ◌++◌, length, take, drop, get_or, Option, refl, sym, ap, ◌∙◌, arith, append_assoc}
 use Rattle.std.specs.Int.{w16, w32, to_be_bytes}
 use Rattle.std.proofs.Math.Seq.{drop-cons}
 use Rattle.std.proofs.lemmas.List.{length-append, length-take, length-drop, take_at, drop_at}
 use Rattle.dns_records.specs.Types.{class_in}
 use Rattle.dns_records.specs.Record.{Record}
 use Rattle.dns_wire.specs.Compress.{Place, Compressing, compressed_name, compressed_rdata, compressed_record}
-use Rattle.dns_wire.specs.Puts.{RefusesUpTo, fixed_octets, compressed_all}
+use Rattle.dns_wire.specs.Puts.{IsBehindLabels, RefusesUpTo, WroteLabels, behind_owner, fixed_octets, compressed_all, name_end}
 use Rattle.dns_wire.specs.declared.WriteError.{WriteError}
-use Rattle.dns_wire.proofs.Puts.{Leaves, refuses_part}
+use Rattle.dns_wire.proofs.Puts.{Leaves, leaves_as, refuses_part}
 
 -- these records are still to be written
 abbrev pub RecordsLeft : List ℕ → Compressing → List ℕ → List Place → List Record → Type 0
@@ -86,3 +86,33 @@ start_of one two three fixed more start ten e f position =
     let a : length two ≡ length one + length fixed = ap length e ∙ length-append one fixed in
     let b : length three ≡ length two + length more = ap length f ∙ length-append two more in
     (omega (arith, a, ten, position), omega (arith, b, position))
+
+owner_first : (o t c l s d : List ℕ) → ((((o ++ t) ++ c) ++ l) ++ s) ++ d ≡ o ++ ((((t ++ c) ++ l) ++ s) ++ d)
+owner_first o t c l s d = simp append_assoc
+
+-- what of a record is to come after the labels of its owner
+pub after_labels : (limit : ℕ) (before after : List ℕ) (now : ℕ) (places places' : List Place) (r : Record) (found : Option ℕ) → WroteLabels limit before after now places' (compressed_name places (length before) r.owner) found
+    → (let behind = behind_owner (compressed_name places (length before) r.owner).places (length before + length (compressed_name places (length before) r.owner).octets) r in
+    Leaves before (compressed_record places (length before) r) after (name_end found ++ behind.octets) behind.places)
+after_labels limit before after now places places' r found w =
+    let owner = compressed_name places (length before) r.owner in
+    let behind = behind_owner owner.places (length before + length owner.octets) r in
+    let rdata = compressed_rdata owner.places (length before + length owner.octets + 10) r in
+    let whole : (compressed_record places (length before) r).octets ≡ owner.octets ++ behind.octets = owner_first owner.octets (to_be_bytes w16 r.rtype) (to_be_bytes w16 class_in) (to_be_bytes w32 r.ttl) (to_be_bytes w16 (length rdata.octets)) rdata.octets in
+    record {
+      octets-are = ap (λ (xs : List ℕ). before ++ xs) whole
+          ∙ sym (append_assoc before owner.octets behind.octets)
+          ∙ ap (λ (xs : List ℕ). xs ++ behind.octets) w.octets
+          ∙ append_assoc after (name_end found) behind.octets;
+      places-are = refl;
+    }
+
+-- it is to come in one piece
+pub record_left : (limit : ℕ) (before after : List ℕ) (now : ℕ) (places places' : List Place) (r : Record) (found : Option ℕ) (octets : List ℕ) → WroteLabels limit before after now places' (compressed_name places (length before) r.owner) found → IsBehindLabels found r octets
+    → Leaves before (compressed_record places (length before) r) after octets places'
+record_left limit before after now places places' r found octets w is =
+    let owner = compressed_name places (length before) r.owner in
+    let at = length before + length owner.octets in
+    let behind = behind_owner owner.places at r in
+    leaves_as before (compressed_record places (length before) r) after (name_end found ++ behind.octets) octets behind.places places' (sym (is.octets-are owner.places at)) (sym (is.places-are owner.places at) ∙ sym w.places)
+    (after_labels limit before after now places places' r found w)

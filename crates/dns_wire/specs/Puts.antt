@@ -5,7 +5,7 @@ use Rattle.std.specs.Int.{w16, w32, to_be_bytes}
 use Rattle.dns_records.specs.Types.{Field, Values, Name, UncompressedName, Strings, class_in, type_a}
 use Rattle.dns_names.specs.Name.{Labels, IsName, wire}
 use Rattle.dns_records.specs.Record.{Record}
-use Rattle.dns_wire.specs.Compress.{Place, Compressing, pointer, new_places, compressed_record}
+use Rattle.dns_wire.specs.Compress.{Place, Compressing, pointer, new_places, compressed_rdata, compressed_record}
 use Rattle.dns_wire.specs.Text.{EchoedQuestion}
 use Rattle.dns_wire.specs.declared.WriteError.{WriteError}
 use Rattle.dns_wire.specs.declared.WriteError.TheVariants.{OutOfMemory, DoesNotFit}
@@ -59,6 +59,35 @@ abbrev pub address_octets : ℕ → ℕ → List ℕ → List ℕ
 address_octets offset ttl address =
     pointer offset ++ to_be_bytes w16 type_a ++ to_be_bytes w16 class_in ++ to_be_bytes w32 ttl
     ++ to_be_bytes w16 4 ++ address
+
+-- The end of a name after its labels: a pointer to the rest, which occurs earlier, or the zero octet.
+abbrev pub name_end : Option ℕ → List ℕ
+name_end None = 0 ∷ []
+name_end (Some offset) = pointer offset
+
+-- The labels of a name are written, within the limit, with the table of targets as stated, and its end is left.
+pub record WroteLabels (limit : ℕ) (before after : List ℕ) (limit' : ℕ) (places' : List Place)
+    (whole : Compressing) (found : Option ℕ) : Type 0 where
+  pub octets : before ++ whole.octets ≡ after ++ name_end found
+  pub places : places' ≡ whole.places
+  pub fits : length after ≤ limit
+  pub same : limit' ≡ limit
+
+-- What follows the owner of a record, from its type on.
+abbrev pub behind_owner : List Place → ℕ → Record → Compressing
+behind_owner places at r =
+    let rdata = compressed_rdata places (at + 10) r in
+    record {
+      octets =
+          to_be_bytes w16 r.rtype ++ to_be_bytes w16 class_in ++ to_be_bytes w32 r.ttl
+          ++ to_be_bytes w16 (length rdata.octets) ++ rdata.octets;
+      places = rdata.places;
+    }
+
+-- The octets are those of a record after the labels of its owner, and add no target.
+pub record IsBehindLabels (found : Option ℕ) (r : Record) (octets : List ℕ) : Type 0 where
+  pub octets-are : (places : List Place) (at : ℕ) → octets ≡ name_end found ++ (behind_owner places at r).octets
+  pub places-are : (places : List Place) (at : ℕ) → places ≡ (behind_owner places at r).places
 
 -- The target for a suffix at an offset, if a pointer can name the offset.
 abbrev pub noted : ℕ → Labels → List Place

@@ -23,9 +23,11 @@ const ROOM: usize = 65535;
 /// How many octets there are for the record that no longer fits: few have more.
 const SPARE: usize = 512;
 
-/// How many targets are searched one by one, after those of the apex, under which most names of a transfer
-/// are.
-const FEW_PLACES: usize = 2;
+/// A transfer has many targets: none is searched one by one, but those of the question's name.
+const FEW_PLACES: usize = 0;
+
+/// Few records have fewer octets, so that there is room for all that fit: to make more is to move all.
+const PER_RECORD: usize = 16;
 
 /// What a message says so far, and its octets.
 #[derive(Drop)]
@@ -159,7 +161,7 @@ impl<'a> MessageBuilder<'a> {
         compressor.limit = ROOM;
         let contents = Contents {
             head: reply,
-            answer: Vec::new(alloc),
+            answer: Vec::with_capacity(alloc, limit / PER_RECORD)?,
             compressor,
             limit,
         };

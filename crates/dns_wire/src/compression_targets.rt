@@ -1,19 +1,58 @@
 //! The targets that pointers can name: where a suffix was written before (RFC 1035 section 4.1.4).
-ghost use Rattle.std.specs.Prelude.{◌≡◌, ◌<◌, List, [], ◌∷◌, ◌++◌, length, get_or, IfOk, IfSome, MatchOption};
-ghost use Rattle.std.specs.Prelude.{OnErr, OnOk, Some};
+ghost use Rattle.std.specs.Prelude.{◌≡◌, ◌<◌, ◌≤◌, ℕ, List, [], ◌∷◌, ◌++◌, length, get_or, IfOk, IfSome};
+ghost use Rattle.std.specs.Prelude.{MatchOption, None, OnErr, OnOk, Some};
+ghost use Rattle.std.specs.Str.{bytes_eq};
 ghost use Rattle.dns_names.specs.Name.{labels_of, names_eq};
 ghost use Rattle.dns_names.specs.Plain.{IsPlain};
 ghost use Rattle.dns_wire.specs.Compress.{Place, new_places};
-ghost use Rattle.dns_wire.specs.Indexed.{IsIndexed, bucket_of, offset_at};
+ghost use Rattle.dns_wire.specs.Indexed.{IsTable, head_of, linked_places, mixed, offset_at, suffix_number};
 ghost use Rattle.dns_wire.specs.Puts.{noted};
 
 use arrayvec::ArrayVec;
+use byteorder::{ByteOrder, LittleEndian};
 use dns_memory::Heap;
 use std::alloc::AllocError;
 use std::marker::Model;
 
 /// How many targets are kept in place, and take no memory.
 const IN_PLACE: usize = 4;
+
+/// A pointer can name the offsets below this one (RFC 1035 section 4.1.4).
+const REACH: usize = 16384;
+
+/// How many heads a table has.
+const HEADS: usize = 1024;
+
+/// For how many targets a table has room at first: few messages have more, and to make room is to move all.
+const AT_FIRST: usize = 1024;
+
+/// What a number is multiplied by, odd and without a pattern.
+const FACTOR: u64 = 11400714819323198485;
+
+/// What a number is divided by, so that its ten highest bits are left.
+const HIGHEST: u64 = 18014398509481984;
+
+/// Whether octets are the same: most names are short, so that few words of eight octets are compared.
+#[inline(always)]
+fn same(octets: &[u8], others: &[u8]) -> bool
+    ensures { result ≡ bytes_eq octets.now others.now }
+{
+    if octets.len() != others.len() {
+        return false;
+    }
+    let (mut rest, mut other) = (octets, others);
+    'words: while let Some((word, behind)) = rest.split_first_chunk::<8>() {
+        let Some((its, after)) = other.split_first_chunk::<8>() else {
+            return false;
+        };
+        if *word != *its {
+            return false;
+        }
+        rest = behind;
+        other = after;
+    }
+    rest == other
+}
 
 /// Where a suffix of an earlier name occurs: the plain form of the suffix is lent.
 #[derive(Drop)]
@@ -51,7 +90,16 @@ impl<'a> Target<'a> {
         requires { IsPlain suffix.now }
         ensures { result ≡ names_eq self.now.suffix (labels_of suffix.now) }
     {
-        self.suffix == suffix
+        same(self.suffix, suffix)
+    }
+
+    /// Where it occurs.
+    #[inline(always)]
+    fn offset(&self) -> usize
+        ensures same { result ≡ self.now.offset }
+        ensures low { result < 16384 }
+    {
+        self.offset
     }
 }
 
@@ -90,108 +138,245 @@ fn place_within(name: &[u8], suffix: &[u8]) -> Option<usize>
     None
 }
 
-/// Of the targets after those that are searched one by one, the ones whose suffixes have the same number, in
-/// the order of their offsets.
+/// A number of eight octets more, and of what was before them.
+#[inline(always)]
+fn mixed(sum: u64, word: u64) -> u64
+    ensures { result ≡ mixed sum word }
+{
+    sum.wrapping_add(word).wrapping_mul(FACTOR)
+}
+
+/// The number of a suffix: computed from all its octets, so that most have one of their own.
+#[inline(always)]
+fn number_of(suffix: &[u8]) -> u64
+    ensures { result ≡ suffix_number suffix.now }
+{
+    let mut sum = 0;
+    let mut rest = suffix;
+    'words: while rest.len() >= 8 {
+        sum = mixed(sum, LittleEndian::read_u64(rest));
+        let (_, behind) = rest.split_at(8);
+        rest = behind;
+    }
+    'octets: for octet in rest {
+        sum = mixed(sum, *octet as u64);
+    }
+    sum
+}
+
+/// The head for a number: its highest bits, on which all octets have an effect.
+#[inline(always)]
+fn head_of(number: u64) -> usize
+    ensures head { result ≡ head_of number }
+    ensures inside { result < 1024 }
+{
+    (number / HIGHEST) as usize % HEADS
+}
+
+/// A target in a table.
 #[derive(Drop)]
-struct Bucket<'a> {
-    places: Vec<Target<'a>, Heap>,
+struct Linked<'a> {
+    target: Target<'a>,
+    /// The number of its suffix.
+    number: u64,
+    /// The index, and one more, of the last target before this one that has the same head, or 0.
+    next: usize,
 }
 
-impl<'a> Model for Bucket<'a> {
-    ghost use Rattle.std.specs.Prelude.{List};
-    ghost use Rattle.dns_wire.specs.Compress.{Place};
+impl<'a> Model for Linked<'a> {
+    ghost use Rattle.std.specs.Prelude.{◌≡◌};
+    ghost use Rattle.dns_names.specs.Name.{wire};
+    ghost use Rattle.dns_wire.specs.Indexed.{Linked as Stated, suffix_number};
 
-    ghost Value = { List Place };
+    ghost Value = { Stated };
 
-    ghost view = { λ b. b.places.items };
+    ghost view = { λ l. record { place = l.target; next = l.next } };
+
+    ghost invariant = { λ l. l.number ≡ suffix_number (wire l.target.suffix) };
 }
 
-impl<'a> Bucket<'a> {
-    /// An empty bucket.
-    fn new(alloc: Heap) -> Bucket<'a>
-        ensures { result ≡ [] }
-    {
-        Bucket {
-            places: Vec::new(alloc),
-        }
-    }
-
-    /// Notes that a suffix occurs at an offset that a pointer can name.
-    fn push(&mut self, offset: usize, suffix: &'a [u8]) -> Result<(), AllocError>
+impl<'a> Linked<'a> {
+    /// Whether the suffix, which has this number, is the one that occurs here.
+    #[inline(always)]
+    fn is(&self, number: u64, suffix: &[u8]) -> bool
         requires plain { IsPlain suffix.now }
-        requires low { offset < 16384 }
-        ensures pushed { OnOk result
-            (self.new ≡ self.old ++ record { offset = offset; suffix = labels_of suffix.now } ∷ []) }
-        ensures refused { OnErr result (self.new ≡ self.old) }
+        requires number { number ≡ suffix_number suffix.now }
+        ensures { result ≡ names_eq self.now.place.suffix (labels_of suffix.now) }
     {
-        self.places.push(Target { offset, suffix })?;
-        Ok(())
+        self.number == number && self.target.is(suffix)
+    }
+
+    /// Where it occurs.
+    #[inline(always)]
+    fn offset(&self) -> usize
+        ensures same { result ≡ self.now.place.offset }
+        ensures low { result < 16384 }
+    {
+        self.target.offset()
+    }
+
+    /// The link to the target before it.
+    #[inline(always)]
+    fn next(&self) -> usize
+        ensures { result ≡ self.now.next }
+    {
+        self.next
     }
 }
 
-/// The number of the bucket in which a suffix is looked for: computed from its octets, so that most have one
-/// of their own.
-fn bucket_of(suffix: &[u8]) -> usize
-    ensures { result ≡ bucket_of suffix.now }
+/// The link at a head, or 0.
+#[inline(always)]
+fn link_at(heads: &[usize], head: usize) -> usize
+    ensures { result ≡ get_or heads.now head 0 }
 {
-    let mut sum = 0usize;
-    'octets: for octet in suffix {
-        sum = (sum * 31 + *octet as usize) % 65536;
-    }
-    sum % 128
+    if head < heads.len() { heads[head] } else { 0 }
 }
 
-/// What the bucket with a number holds.
-fn places_in<'b, 'a>(buckets: &'b [Bucket<'a>], number: usize) -> &'b [Target<'a>]
-    ensures { result.now ≡ get_or buckets.now number [] }
+/// Makes the heads, none of which has a target, and room for targets.
+#[cold]
+#[inline(never)]
+fn make(linked: &mut Vec<Linked<'_>, Heap>, heads: &mut Vec<usize, Heap>) -> Result<(), AllocError>
+    requires { length heads.old.items < 1024 }
+    ensures there { OnOk result (length heads.new.items ≡ 1024) }
+    ensures same { (head : ℕ) → get_or heads.new.items head 0 ≡ get_or heads.old.items head 0 }
+    ensures linked { linked.new.items ≡ linked.old.items }
 {
-    if number < buckets.len() {
-        let bucket = &buckets[number];
-        return &bucket.places;
-    }
-    &[]
+    linked.reserve(AT_FIRST)?;
+    heads.resize(HEADS, 0)
 }
 
-/// Appends empty buckets to the others until there is one with that number.
-fn reach(alloc: Heap, buckets: &mut Vec<Bucket<'_>, Heap>, number: usize) -> Result<(), AllocError>
-    ensures there { OnOk result (number < length buckets.new.items) }
-    ensures same { (places : List Place) → IsIndexed places buckets.old.items
-        → IsIndexed places buckets.new.items }
+/// Makes the heads, if there are none.
+#[inline(always)]
+fn reach(linked: &mut Vec<Linked<'_>, Heap>, heads: &mut Vec<usize, Heap>) -> Result<(), AllocError>
+    ensures there { OnOk result (1024 ≤ length heads.new.items) }
+    ensures same { (head : ℕ) → get_or heads.new.items head 0 ≡ get_or heads.old.items head 0 }
+    ensures linked { linked.new.items ≡ linked.old.items }
 {
-    'buckets: while buckets.len() <= number {
-        buckets.push(Bucket::new(alloc))?;
+    if heads.len() < HEADS {
+        return make(linked, heads);
     }
     Ok(())
 }
 
-/// Notes in the bucket with its number that a suffix occurs at an offset.
-fn keep_later<'a>(
-    alloc: Heap,
-    buckets: &mut Vec<Bucket<'a>, Heap>,
-    number: usize,
-    offset: usize,
-    suffix: &'a [u8],
-) -> Result<(), AllocError>
-    requires number { number ≡ bucket_of suffix.now }
+/// Where a suffix with this number occurs, among the targets of a table.
+#[inline(always)]
+fn linked_place(linked: &[Linked<'_>], heads: &[usize], number: u64, suffix: &[u8]) -> Option<usize>
+    requires table { IsTable linked.now heads.now }
     requires plain { IsPlain suffix.now }
-    requires low { offset < 16384 }
-    ensures kept { OnOk result ((places : List Place) → IsIndexed places buckets.old.items
-        → IsIndexed (places ++ record { offset = offset; suffix = labels_of suffix.now } ∷ [])
-        buckets.new.items) }
-    ensures refused { OnErr result ((places : List Place) → IsIndexed places buckets.old.items
-        → IsIndexed places buckets.new.items) }
+    requires number { number ≡ suffix_number suffix.now }
+    ensures position { result ≡ offset_at (linked_places linked.now) (labels_of suffix.now) }
+    ensures low { IfSome result (λ offset. offset < 16384) }
 {
-    reach(alloc, buckets, number)?;
-    buckets[number].push(offset, suffix)
+    let mut link = link_at(heads, head_of(number));
+    'links: while link > 0 {
+        let one = &linked[link - 1];
+        if one.is(number, suffix) {
+            return Some(one.offset());
+        }
+        link = one.next();
+    }
+    None
+}
+
+/// Targets of different suffixes, in the order in which they were kept, each found by the number of its
+/// suffix.
+#[derive(Drop)]
+struct Table<'a> {
+    linked: Vec<Linked<'a>, Heap>,
+    /// For each head the index, and one more, of the last target that has it, or 0. There are none before the
+    /// first target.
+    heads: Vec<usize, Heap>,
+}
+
+impl<'a> Model for Table<'a> {
+    ghost use Rattle.std.specs.Prelude.{List, map};
+    ghost use Rattle.dns_wire.specs.Compress.{Place};
+    ghost use Rattle.dns_wire.specs.Indexed.{IsTable, linked_places};
+
+    ghost Value = { List Place };
+
+    ghost view = { λ t. linked_places t.linked.items };
+
+    ghost invariant = { λ t. IsTable t.linked.items t.heads.items };
+}
+
+impl<'a> Table<'a> {
+    /// No target.
+    fn new(alloc: Heap) -> Table<'a>
+        ensures { result ≡ [] }
+    {
+        Table {
+            linked: Vec::new(alloc),
+            heads: Vec::new(alloc),
+        }
+    }
+
+    /// Where a suffix with this number occurs.
+    #[inline(always)]
+    fn find(&self, number: u64, suffix: &[u8]) -> Option<usize>
+        requires plain { IsPlain suffix.now }
+        requires number { number ≡ suffix_number suffix.now }
+        ensures position { result ≡ offset_at self.now (labels_of suffix.now) }
+        ensures low { IfSome result (λ offset. offset < 16384) }
+    {
+        linked_place(&self.linked, &self.heads, number, suffix)
+    }
+
+    /// Keeps a target whose suffix, which has this number, occurs nowhere.
+    #[inline(always)]
+    fn keep(&mut self, number: u64, offset: usize, suffix: &'a [u8]) -> Result<(), AllocError>
+        requires plain { IsPlain suffix.now }
+        requires number { number ≡ suffix_number suffix.now }
+        requires low { offset < 16384 }
+        requires new { None ≡ offset_at self.old (labels_of suffix.now) }
+        ensures kept { OnOk result
+            (self.new ≡ self.old ++ record { offset = offset; suffix = labels_of suffix.now } ∷ []) }
+        ensures refused { OnErr result (self.new ≡ self.old) }
+    {
+        reach(&mut self.linked, &mut self.heads)?;
+        let head = head_of(number);
+        let target = Target { offset, suffix };
+        let next = self.heads[head];
+        self.linked.push(Linked {
+            target,
+            number,
+            next,
+        })?;
+        self.heads[head] = self.linked.len();
+        Ok(())
+    }
+
+    /// The offset at which a suffix occurs. Where it occurs nowhere, it is noted that it occurs at this one,
+    /// if a pointer can name that.
+    #[inline(always)]
+    fn find_or_keep(&mut self, offset: usize, suffix: &'a [u8]) -> Result<Option<usize>, AllocError>
+        requires { IsPlain suffix.now }
+        ensures position { IfOk result (λ found. found ≡ offset_at self.old (labels_of suffix.now)) }
+        ensures low { IfOk result (λ found. IfSome found (λ position. position < 16384)) }
+        ensures kept { IfOk result
+            (λ found. MatchOption found (self.new ≡ self.old ++ noted offset (labels_of suffix.now))
+            (λ _. self.new ≡ self.old)) }
+        ensures refused { OnErr result (self.new ≡ self.old) }
+    {
+        let number = number_of(suffix);
+        if let Some(found) = self.find(number, suffix) {
+            return Ok(Some(found));
+        }
+        if offset < REACH {
+            self.keep(number, offset, suffix)?;
+        }
+        Ok(None)
+    }
 }
 
 /// The targets after those of the first name, in the order of their offsets.
 struct Listed<'a> {
+    /// Those that are searched one by one.
     all: Vec<Target<'a>, Heap>,
-    /// How many are searched one by one.
+    /// How many of these there may be.
     looked_through: usize,
-    /// Those after them, by the number of their suffix.
-    later: Vec<Bucket<'a>, Heap>,
+    /// Those after them.
+    later: Table<'a>,
 }
 
 // Written out, so that a proof lets one go by one call (docs/GATE.md).
@@ -207,15 +392,14 @@ impl<'a> Drop for Listed<'a> {
 }
 
 impl<'a> Model for Listed<'a> {
-    ghost use Rattle.std.specs.Prelude.{List, drop};
+    ghost use Rattle.std.specs.Prelude.{◌≡◌, ◌<◌, List, [], ◌++◌, length};
     ghost use Rattle.dns_wire.specs.Compress.{Place};
-    ghost use Rattle.dns_wire.specs.Indexed.{IsIndexed};
 
     ghost Value = { List Place };
 
-    ghost view = { λ p. p.all.items };
+    ghost view = { λ p. p.all.items ++ p.later };
 
-    ghost invariant = { λ p. IsIndexed (drop p.looked_through p.all.items) p.later.items };
+    ghost invariant = { λ p. length p.all.items < p.looked_through → p.later ≡ [] };
 }
 
 impl<'a> Listed<'a> {
@@ -227,7 +411,7 @@ impl<'a> Listed<'a> {
         Listed {
             all: Vec::new(alloc),
             looked_through,
-            later: Vec::new(alloc),
+            later: Table::new(alloc),
         }
     }
 
@@ -243,25 +427,14 @@ impl<'a> Listed<'a> {
             (λ _. self.new ≡ self.old)) }
         ensures refused { OnErr result (self.new ≡ self.old) }
     {
-        let first = self.looked_through.min(self.all.len());
-        if let Some(found) = place_of(&self.all.as_slice()[..first], suffix) {
+        if let Some(found) = place_of(&self.all, suffix) {
             return Ok(Some(found));
         }
-        if self.all.len() < self.looked_through {
-            if offset < 16384 {
-                self.all.push(Target { offset, suffix })?;
-            }
-            return Ok(None);
+        if self.all.len() >= self.looked_through {
+            return self.later.find_or_keep(offset, suffix);
         }
-        let number = bucket_of(suffix);
-        if let Some(found) = place_of(places_in(&self.later, number), suffix) {
-            return Ok(Some(found));
-        }
-        if offset < 16384 {
-            self.all.reserve(1)?;
-            let alloc = *self.all.allocator();
-            keep_later(alloc, &mut self.later, number, offset, suffix)?;
-            self.all.push_reserved(Target { offset, suffix });
+        if offset < REACH {
+            self.all.push(Target { offset, suffix })?;
         }
         Ok(None)
     }
@@ -339,6 +512,7 @@ impl<'a> Places<'a> {
 
     /// The least offset at which a suffix occurs. Where it occurs nowhere, it is noted that it occurs at this
     /// one, if a pointer can name that.
+    #[inline(always)]
     pub(crate) fn find_or_keep(
         &mut self,
         offset: usize,
@@ -361,7 +535,7 @@ impl<'a> Places<'a> {
         if self.few.len() >= self.in_place {
             return self.listed.find_or_keep(offset, suffix);
         }
-        if offset < 16384 {
+        if offset < REACH {
             self.few.push(Target { offset, suffix });
         }
         Ok(None)

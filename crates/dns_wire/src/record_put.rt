@@ -12,7 +12,7 @@ ghost use Rattle.std.specs.List.{list_any};
 ghost use Rattle.dns_records.specs.Fields.{stated_field, stated_fields};
 ghost use Rattle.dns_wire.specs.Compress.{Place, compressed_fields, compressed_rdata, compressed_record};
 ghost use Rattle.dns_wire.specs.Puts.{Wrote, RefusesUpTo, BeginsWithName, fixed_octets, compressed_all};
-ghost use Rattle.dns_wire.specs.Puts.{address_octets, is_name, plain_octets};
+ghost use Rattle.dns_wire.specs.Puts.{IsBehindLabels, address_octets, is_name, plain_octets};
 
 use crate::compressor::Compressor;
 use crate::name::POINTER_BITS;
@@ -62,6 +62,21 @@ fn address_octets(offset: usize, ttl: u32, address: &[u8]) -> [u8; 16]
     BigEndian::write_u16(&mut octets[10..], 4);
     octets[12..].copy_from_slice(address);
     octets
+}
+
+/// The octets of a record that is an address after the labels of its owner, the rest of which occurs earlier.
+/// Most records are such, and are written in one piece.
+#[inline(always)]
+fn address(found: Option<usize>, one: &ReplyRecord<'_>) -> Option<[u8; 16]>
+    requires { IfSome found (λ offset. offset < 16384) }
+    ensures { IfSome result (λ octets. IsBehindLabels found one.now octets) }
+{
+    let offset = found?;
+    let rdata = one.rdata();
+    if one.rtype() != A || rdata.len() != 4 {
+        return None;
+    }
+    Some(address_octets(offset, one.ttl(), rdata))
 }
 
 /// Whether one of the parts is a name that a message may compress (RFC 1035 section 4.1.4).
@@ -206,9 +221,9 @@ impl<'a> Compressor<'a> {
         self.put_by_form(one)
     }
 
-    /// All octets of a record that is an address whose owner occurs earlier. Most records are such, and are
-    /// written in one piece.
-    fn address(&self, one: &ReplyRecord<'_>) -> Option<[u8; 16]>
+    /// All octets of a record that is an address whose owner is found without a search of the targets that
+    /// take memory. Most records of replies are such.
+    fn known_address(&self, one: &ReplyRecord<'_>) -> Option<[u8; 16]>
         ensures { IfSome result
             (λ octets. (at : ℕ) → compressed_record self.now.places at one.now
             ≡ plain_octets self.now.places octets) }
@@ -220,6 +235,31 @@ impl<'a> Compressor<'a> {
         let owner = one.owner();
         let offset = self.places.find(owner.as_wire())?;
         Some(address_octets(offset, one.ttl(), rdata))
+    }
+
+    /// Writes a record, the labels of its owner first.
+    #[inline(always)]
+    fn put_by_labels(&mut self, one: &ReplyRecord<'a>) -> Result<(), WriteError>
+        requires room { length self.old.octets.items ≤ self.old.limit }
+        requires small { self.old.limit < 65536 }
+        ensures written { OnOk result
+            (Wrote self.old.limit self.old.octets.items self.new.octets.items self.new.limit self.new.places
+            (compressed_record self.old.places (length self.old.octets.items) one.now)) }
+        ensures refused { IfErr result
+            (RefusesUpTo self.old.limit
+            (length self.old.octets.items
+            + length (compressed_record self.old.places (length self.old.octets.items) one.now).octets)) }
+    {
+        let found = self.put_labels(one.owner().as_wire())?;
+        if let Some(octets) = address(found, one) {
+            return self.put(&octets);
+        }
+        self.put_end(found)?;
+        self.put(&fixed(one.rtype(), one.ttl()))?;
+        let start = self.octets.len();
+        self.put_rdata(one)?;
+        self.put_size(start);
+        Ok(())
     }
 
     /// Writes a record (RFC 1035 section 4.1.3).
@@ -235,15 +275,10 @@ impl<'a> Compressor<'a> {
             (length self.old.octets.items
             + length (compressed_record self.old.places (length self.old.octets.items) one.now).octets)) }
     {
-        if let Some(octets) = self.address(one) {
+        if let Some(octets) = self.known_address(one) {
             return self.put(&octets);
         }
-        self.put_name(one.owner().as_wire())?;
-        self.put(&fixed(one.rtype(), one.ttl()))?;
-        let start = self.octets.len();
-        self.put_rdata(one)?;
-        self.put_size(start);
-        Ok(())
+        self.put_by_labels(one)
     }
 
     /// Writes records one after the other. Most sections have none, which costs no call.

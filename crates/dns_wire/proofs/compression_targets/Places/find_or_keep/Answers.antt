@@ -48,8 +48,8 @@ nowhere c none empty =
     none ∙ looked_through c
     ∙ ap (λ (ps : List Place). offset_at ps n) (sym (ap (λ (ps : List Place). front ++ ps) empty ∙ append-nil front) ∙ c.self.view_is)
 
-pub returns-then-offset-lt16384-clause-position : goal.returns-then-offset-lt16384-clause-position
-returns-then-offset-lt16384-clause-position c = nowhere (goal.at.returns-then-offset-lt16384-clause-position c).After-place_of (sym c.in_default-place_of.is) (c.self.invariant.2 (omega (arith, c.len.ensures.value)))
+pub returns-then-offset-lt-REACH-clause-position : goal.returns-then-offset-lt-REACH-clause-position
+returns-then-offset-lt-REACH-clause-position c = nowhere (goal.at.returns-then-offset-lt-REACH-clause-position c).After-place_of (sym c.in_default-place_of.is) (c.self.invariant.2 (omega (arith, c.len.ensures.value)))
 
-pub returns-else-offset-lt16384-clause-position : goal.returns-else-offset-lt16384-clause-position
-returns-else-offset-lt16384-clause-position c = nowhere (goal.at.returns-else-offset-lt16384-clause-position c).After-place_of (sym c.in_default-place_of.is) (c.self.invariant.2 (omega (arith, c.len.ensures.value)))
+pub returns-else-offset-lt-REACH-clause-position : goal.returns-else-offset-lt-REACH-clause-position
+returns-else-offset-lt-REACH-clause-position c = nowhere (goal.at.returns-else-offset-lt-REACH-clause-position c).After-place_of (sym c.in_default-place_of.is) (c.self.invariant.2 (omega (arith, c.len.ensures.value)))

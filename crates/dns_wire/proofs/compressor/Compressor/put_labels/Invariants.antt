@@ -4,7 +4,7 @@ use Rattle.dns_names.specs.Plain.{IsPlain}
 use Rattle.dns_wire.specs.Compress.{compressed_name}
 use Rattle.dns_wire.proofs.Indexed.{StillKnown}
 use Rattle.dns_wire.proofs.NamePut.{NameLeft}
-use Rattle.dns_wire.proofs.compressor.Compressor.put_name.Given as goal
+use Rattle.dns_wire.proofs.compressor.Compressor.put_labels.Given as goal
 
 abbrev pub invariant-labels : goal.invariant-labels
 invariant-labels l = record {
