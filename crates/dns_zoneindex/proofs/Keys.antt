@@ -1,10 +1,10 @@
 -- Labels whose keys differ are in the order of their keys.
-use Rattle.std.proofs.Common.{◌≡◌, ℕ, zero, suc, ◌*◌, ◌^◌, ◌+◌, ◌<◌, ◌≤◌, inl, inr, List, [], ◌∷◌, length, get_or, refl, ap, sym, ◌∙◌, arith}
+use Rattle.std.proofs.Common.{◌≡◌, ℕ, zero, suc, ◌*◌, ◌^◌, ◌+◌, ◌<◌, ◌≤◌, inl, inr, List, [], ◌∷◌, length, take, drop, ◌-◌, ◌%◌, get_or, refl, ap, sym, ◌∙◌, arith}
 use Rattle.std.proofs.Math.Nat.{mul_comm, pow-suc, zero-mul}
 use Rattle.std.proofs.lemmas.Nat.{mul-add-lt}
 use Rattle.std.proofs.lemmas.Bool.{cases_order}
 use Rattle.std.specs.Cmp.{nat_cmp_is}
-use Rattle.std.specs.Int.{w64, from_be_bytes}
+use Rattle.std.specs.Int.{w32, w64, from_be_bytes}
 use Rattle.std.specs.Ordering.{nat_cmp, ordering_then, ordering_reverse}
 use Rattle.std.specs.declared.cmp.Ordering.TheVariants.{Less, Equal, Greater}
 use Rattle.dns_names.specs.Lower.{AreOctets}
@@ -109,3 +109,29 @@ key_above k l a b p q h = sym (label_total.antisymm a b ∙ ap ordering_reverse 
 
 pub key_equal : (k l : ℕ) (a b : List ℕ) → IsKey k a → IsKey l b → k ≡ l → length a ≤ 8 → nat_cmp (length a) (length b) ≡ label_cmp a b
 key_equal k l a b p q h short = sym (leading_equal 8 a b p.1 q.1 short (sym p.0 ∙ h ∙ q.0))
+
+-- a label of four to eight octets by its first four and its last four
+halves : (label : List ℕ) → 4 ≤ length label → length label ≤ 8 → AreOctets label
+    → from_be_bytes w32 (take 4 label) * 4294967296 % 18446744073709551616
+    + from_be_bytes w32 (drop (length label - 4) label) * 2 ^ (8 * (8 - length label)) % 18446744073709551616 % 4294967296 ≡ leading 8 label
+halves [] l m o = absurd (omega (arith, l))
+halves (a ∷ []) l m o = absurd (omega (arith, l))
+halves (a ∷ b ∷ []) l m o = absurd (omega (arith, l))
+halves (a ∷ b ∷ c ∷ []) l m o = absurd (omega (arith, l))
+halves (a ∷ b ∷ c ∷ d ∷ []) l m o = omega (arith, o 0, o 1, o 2, o 3)
+halves (a ∷ b ∷ c ∷ d ∷ e ∷ []) l m o = omega (arith, o 0, o 1, o 2, o 3, o 4)
+halves (a ∷ b ∷ c ∷ d ∷ e ∷ f ∷ []) l m o = omega (arith, o 0, o 1, o 2, o 3, o 4, o 5)
+halves (a ∷ b ∷ c ∷ d ∷ e ∷ f ∷ g ∷ []) l m o = omega (arith, o 0, o 1, o 2, o 3, o 4, o 5, o 6)
+halves (a ∷ b ∷ c ∷ d ∷ e ∷ f ∷ g ∷ h ∷ []) l m o = omega (arith, o 0, o 1, o 2, o 3, o 4, o 5, o 6, o 7)
+halves (a ∷ b ∷ c ∷ d ∷ e ∷ f ∷ g ∷ h ∷ i ∷ rest) l m o = absurd (omega (arith, m))
+
+pub key_of_two : (label front back : List ℕ) (len f b : ℕ) → 4 ≤ len → len ≤ 8 → length label ≡ len → front ≡ take 4 label → back ≡ drop (len - 4) label
+    → AreOctets label
+    → f ≡ from_be_bytes w32 front
+    → b ≡ from_be_bytes w32 back
+    → f * 4294967296 % 18446744073709551616 + b * 2 ^ (8 * (8 - len)) % 18446744073709551616 % 4294967296 ≡ leading 8 label
+key_of_two label front back len f b l m n e g o p q =
+    let first : f ≡ from_be_bytes w32 (take 4 label) = p ∙ ap (from_be_bytes w32) e in
+    let last : b ≡ from_be_bytes w32 (drop (length label - 4) label) = q ∙ ap (from_be_bytes w32) (g ∙ ap (λ k. drop (k - 4) label) (sym n)) in
+    (λ i. first i * 4294967296 % 18446744073709551616 + last i * 2 ^ (8 * (8 - sym n i)) % 18446744073709551616 % 4294967296)
+    ∙ halves label (omega (arith, l, n)) (omega (arith, m, n)) o
