@@ -1,11 +1,13 @@
 -- Where the child of a label is, among slots of children.
-use Rattle.std.specs.Prelude.{◌≡◌, ℕ, suc, ◌+◌, Bool, false, ◌<◌, ◌≤◌, List, [], ◌∷◌, get_or, length, take, drop, Some}
+use Rattle.std.specs.Prelude.{◌≡◌, ℕ, suc, ◌+◌, Bool, false, ◌<◌, ◌≤◌}
+use Rattle.std.specs.Prelude.{List, [], ◌∷◌, get_or, length, take, drop, Some}
 use Rattle.std.specs.List.{slice_get}
 use Rattle.std.specs.Ordering.{is_lt}
 use Rattle.std.specs.declared.cmp.Ordering.TheVariants.{Less, Greater}
 use Rattle.dns_zoneindex.specs.Assoc.{child_of}
 use Rattle.dns_zoneindex.specs.Entries.{Child}
-use Rattle.dns_zoneindex.specs.Children.{label_cmp, joined, AllChildren, AreChildren, AllFull, AreKeys, AllBegin}
+use Rattle.dns_zoneindex.specs.Children.{label_cmp, joined}
+use Rattle.dns_zoneindex.specs.Children.{AllChildren, AreChildren, AllFull, AreKeys, AllBegin}
 use Rattle.dns_zoneindex.specs.Keys.{IsKey}
 
 -- The label sorts before the first of the children.

@@ -41,6 +41,7 @@ fn is_cut(apex: &NameRef<'_>, name: &NameRef<'_>, owned: &[Record]) -> bool
 }
 
 /// What a name has that does not exist, by its closest encloser, and by what is stored at and under that.
+#[inline(never)]
 fn under_wildcard<'n, 's>(encloser: NameRef<'n>, node: &'s Node) -> Match<'n, 's>
     ensures { (apex : Labels) (es : List PathRecord) (name : Labels)
         → are_owned es ≡ true

@@ -1,6 +1,7 @@
 //! Slots of neighbouring children, and the groups that they make: a tree of which each group has few slots,
 //! so that few of them are looked at where a child is looked for.
-ghost use Rattle.std.specs.Prelude.{◌≡◌, ◌++◌, ◌∷◌, [], ◌<◌, ℕ, true, suc, take, drop, length, IfOk, IfSome, OnOk};
+ghost use Rattle.std.specs.Prelude.{◌≡◌, ◌++◌, ◌∷◌, [], ◌<◌, ℕ, true, suc};
+ghost use Rattle.std.specs.Prelude.{take, drop, length, IfOk, IfSome, OnOk};
 ghost use Rattle.std.specs.Option.{option_copied};
 ghost use Rattle.std.specs.declared.cmp.Ordering.TheVariants.{Greater};
 ghost use Rattle.dns_zoneindex.specs.Children.{items, joined, label_cmp, AllChildren, AreChildren, AllFull};
@@ -8,7 +9,8 @@ ghost use Rattle.dns_zoneindex.specs.Children.{AreKeys, IsFirstKey, BeginAlike, 
 ghost use Rattle.dns_zoneindex.specs.Children.{AreAlike, IsSharedPrefix};
 ghost use Rattle.dns_zoneindex.specs.Entries.{flat};
 ghost use Rattle.dns_zoneindex.specs.Keys.{IsKey};
-ghost use Rattle.dns_zoneindex.specs.Slots.{is_before, HasAlone, IsFoundAt, IsLastUpTo, IsPlace, IsPlaceOfKey};
+ghost use Rattle.dns_zoneindex.specs.Slots.{is_before, HasAlone, IsFoundAt, IsLastUpTo};
+ghost use Rattle.dns_zoneindex.specs.Slots.{IsPlace, IsPlaceOfKey};
 
 use crate::count::sum;
 use crate::key::{begin_alike, key_after, order, shared};

@@ -134,5 +134,26 @@ pub(crate) fn is_same(key: u64, label: &[u8], own: &[u8]) -> bool
     if label.len() <= 8 {
         return key == key_of(own);
     }
+    if key != key_of(own) {
+        return false;
+    }
+    end_alike(key, label, own)
+}
+
+/// Whether two labels of one length and one key are the same, if they have more than eight octets. Of up to
+/// sixteen the last eight tell it.
+#[inline(always)]
+pub(crate) fn end_alike(key: u64, label: &[u8], own: &[u8]) -> bool
+    requires key { IsKey key label.now }
+    requires own_key { IsKey key own.now }
+    requires same { length label.now ≡ length own.now }
+    requires more { 8 < length label.now }
+    ensures { result ≡ bytes_eq label.now own.now }
+{
+    if label.len() <= 16 {
+        if let (Some(end), Some(own_end)) = (label.last_chunk::<8>(), own.last_chunk::<8>()) {
+            return u64::from_be_bytes(*end) == u64::from_be_bytes(*own_end);
+        }
+    }
     label == own
 }

@@ -341,6 +341,7 @@ impl Node {
     }
 
     /// The child of a label.
+    #[inline(always)]
     pub(crate) fn child(&self, label: &[u8]) -> Option<&Node>
         ensures found { own_at (option_copied result) ≡ under_label label.now self.now.own }
         ensures kept { 0 < length self.now.own }
