@@ -1,5 +1,5 @@
 -- The keys of slots, side by side.
-use Rattle.std.proofs.Common.{◌≡◌, ℕ, zero, suc, ◌<◌, ◌≤◌, true, false, List, [], ◌∷◌, get_or, length, take, drop, Some, refl, ap, sym, ◌∙◌, subst, arith}
+use Rattle.std.proofs.Common.{◌≡◌, ℕ, zero, suc, ◌+◌, ◌<◌, ◌≤◌, ◌⊎◌, inl, inr, true, false, List, [], ◌∷◌, get_or, length, take, drop, Some, refl, ap, sym, ◌∙◌, subst, arith}
 use Rattle.std.specs.Prelude.{unwrap_or, slice_set}
 use Rattle.std.specs.List.{slice_get}
 use Rattle.std.specs.Ordering.{is_lt}
@@ -8,7 +8,7 @@ use Rattle.std.proofs.lemmas.Option.{slice_get_within, slice_get-get_or}
 use Rattle.dns_zoneindex.specs.Entries.{Child}
 use Rattle.dns_zoneindex.specs.Children.{label_cmp, joined, AllChildren, AreChildren, AllFull, AreKeys, IsFirstKey, BeginAlike, AllBegin}
 use Rattle.dns_zoneindex.specs.Keys.{IsKey}
-use Rattle.dns_zoneindex.specs.Slots.{is_before}
+use Rattle.dns_zoneindex.specs.Slots.{is_before, IsLastUpTo, IsPlace}
 use Rattle.dns_zoneindex.proofs.Keys.{key_below, key_above}
 use Rattle.dns_zoneindex.proofs.Fronts.{order_after}
 use Rattle.dns_zoneindex.proofs.Sides.{children_back}
@@ -120,3 +120,41 @@ none_behind q [] zero short = tt
 none_behind q [] (suc n) short = tt
 none_behind q (s ∷ slots) zero short = absurd (omega (arith, short))
 none_behind q (s ∷ slots) (suc n) short = none_behind q slots n (omega (arith, short))
+
+-- an index that the keys alone determine
+pub place_by_key : (skip : ℕ) (q : List ℕ) (key : ℕ) (keys : List ℕ) (slots : List (List Child)) (p : ℕ) → AreKeys skip keys slots
+    → AllFull slots
+    → AreChildren (joined slots)
+    → IsKey key (drop skip q)
+    → AllBegin skip q (drop 1 slots)
+    → p < length slots
+    → length keys ≡ 16
+    → IsLastUpTo key keys p
+    → ((p ≡ 0) ⊎ (key ≡ get_or keys p 0 → ⊥))
+    → (((p + 1 ≡ 16) × (length slots ≡ 16)) ⊎ (p + 1 ≡ 16 → ⊥))
+    → IsPlace q slots p
+place_by_key skip q key keys slots p h full kept kq b there sixteen last apart end = record {
+  there = there;
+  ahead = elim apart [ inl e ↦ none_ahead e | inr n ↦ some_ahead n ];
+  behind = elim end [ inl e ↦ none_behind q slots (suc p) (omega (arith, e.0, e.1)) | inr n ↦ some_behind n ];
+}
+  where
+    none_ahead : p ≡ 0 → AllChildren (λ c. label_cmp q c.label ≡ Greater) (joined (take p slots))
+    none_ahead e = subst (λ n. AllChildren (λ c. label_cmp q c.label ≡ Greater) (joined (take n slots))) (sym e) tt
+
+    some_ahead : (key ≡ get_or keys p 0 → ⊥) → AllChildren (λ c. label_cmp q c.label ≡ Greater) (joined (take p slots))
+    some_ahead n = first p refl
+      where
+        first : (m : ℕ) → m ≡ p → AllChildren (λ c. label_cmp q c.label ≡ Greater) (joined (take p slots))
+        first zero e = none_ahead (sym e)
+        first (suc m) e =
+            let least : get_or keys p 0 ≤ key = last.least (omega (arith, e)) in
+            let less : get_or keys p 0 < key = omega (arith, least, n) in
+            ahead_by_key skip q key (get_or keys p 0) keys slots p kq h kept full b there (λ z. absurd (omega (arith, z, e))) (slice_get-get_or keys p 0 last.there) less
+
+    some_behind : (p + 1 ≡ 16 → ⊥) → AllChildren (λ c. label_cmp q c.label ≡ Less) (joined (drop (suc p) slots))
+    some_behind n =
+        let there : p + 1 < length keys = omega (arith, n, sixteen, last.there) in
+        let next : p + 1 ≡ suc p = omega arith in
+        let behind : key < get_or keys (suc p) 0 = subst (λ m. key < get_or keys m 0) next (last.next there) in
+        before_later skip q key (get_or keys (suc p) 0) keys slots p kq h b kept (slice_get-get_or keys (suc p) 0 (omega (arith, there))) behind

@@ -14,10 +14,10 @@ use Rattle.dns_zone.specs.Order.{bytes_same, bytes_itself}
 use Rattle.dns_zone.specs.Sets.{true_or_false}
 use Rattle.dns_zoneindex.specs.Assoc.{child_of}
 use Rattle.dns_zoneindex.specs.Entries.{Child}
-use Rattle.dns_zoneindex.specs.Children.{label_cmp, joined, first_label, last_of, AllChildren, AreChildren, AllFull, BeginAlike, AllBegin, BeginAsSecond, IsWhole, AreAlike, IsSharedPrefix}
+use Rattle.dns_zoneindex.specs.Children.{label_cmp, joined, first_label, last_of, AllChildren, AreChildren, AllFull, AllBegin, BeginAsSecond, IsGroup, IsWhole, AreAlike, IsSharedPrefix}
 use Rattle.dns_zoneindex.specs.Keys.{IsKey}
 use Rattle.dns_zoneindex.proofs.Keys.{first_equal, one_more, key_equal}
-use Rattle.dns_zoneindex.specs.Slots.{IsPlace, IsFoundAt}
+use Rattle.dns_zoneindex.specs.Slots.{IsPlace, IsFoundAt, IsPlaceOfKey}
 use Rattle.dns_zoneindex.proofs.Sides.{all_front, all_back, all_map, children_back}
 use Rattle.dns_zoneindex.proofs.Slots.{child_at, joined_around, some_joined}
 use Rattle.dns_zoneindex.proofs.Under.{labels_same}
@@ -310,3 +310,18 @@ begins_second n q (r ∷ t ∷ slots) s c b e f a =
 
 pub alike_by : (n : ℕ) (a b x y : Option Child) → AreAlike n a b → a ≡ x → b ≡ y → AreAlike n x y
 alike_by n a b x y h e f = subst (AreAlike n x) f (subst (λ z. AreAlike n z b) e h)
+
+-- the same where the keys alone tell the position
+pub found_alone : (q : List ℕ) (count key skip p : ℕ) (keys : List ℕ) (whole : Bool) (slots lent : List (List Child)) (s : List Child) → lent ≡ slots
+    → IsGroup count slots keys skip whole
+    → whole ≡ true
+    → IsKey key (drop skip q)
+    → p < length lent
+    → IsPlaceOfKey keys key lent p
+    → s ≡ get_or slots p s
+    → child_of q s ≡ child_of q (joined slots)
+found_alone q count key skip p keys whole slots lent s e g w k there place is =
+    let place : IsPlaceOfKey keys key slots p = subst (λ x. IsPlaceOfKey keys key x p) e place in
+    let there : p < length slots = subst (λ x. p < length x) e there in
+    let found = found_whole skip q slots p (g.5.1 w) g.1 there (λ begin. place skip q g.4 g.1 g.0 k begin) in
+    found_in q slots slots p s refl found is

@@ -1,17 +1,20 @@
 -- Runs of the records that are one after another.
-use Rattle.std.proofs.Common.{◌≡◌, ℕ, zero, suc, ◌+◌, ◌-◌, ◌<◌, ◌≤◌, List, [], ◌∷◌, ◌++◌, length, map, take, drop, inl, inr, refl, sym, ap, subst, ◌∙◌, arith, append_assoc, length-append, length-drop}
+use Rattle.std.proofs.Common.{◌≡◌, ℕ, zero, suc, ◌+◌, ◌-◌, ◌<◌, ◌≤◌, List, [], ◌∷◌, ◌++◌, length, map, take, drop, inl, inr, refl, sym, ap, subst, ◌∙◌, arith, append_assoc, length-append, length-drop, length-take}
 use Rattle.std.proofs.lemmas.List.{drop-append-le, map-append, length-map}
 use Rattle.std.proofs.Math.Seq.{drop-append-add}
-use Rattle.std.specs.Prelude.{slice_get, None}
-use Rattle.std.proofs.lemmas.Option.{slice_get_past}
+use Rattle.std.specs.Prelude.{slice_get, Some, None}
+use Rattle.std.proofs.lemmas.Option.{slice_get_past, slice_get_within}
 use Rattle.dns_records.specs.Record.{Record}
 use Rattle.dns_zone.specs.Records.{next_after}
 use Rattle.dns_zone.proofs.Searching.{told_nat}
 use Rattle.dns_zoneindex.specs.Entries.{PathRecord, Child, here, pushed, flat}
-use Rattle.dns_zoneindex.specs.Children.{joined}
+use Rattle.dns_zoneindex.specs.Children.{joined, AllFull, AreChildren}
+use Rattle.dns_zoneindex.proofs.Counts.{length-pushed, length-flat-append}
+use Rattle.dns_zoneindex.proofs.Sides.{children_front, children_back}
 use Rattle.dns_zoneindex.specs.Lent.{IsLent, IsThere}
-use Rattle.dns_zoneindex.proofs.Slots.{joined-append}
+use Rattle.dns_zoneindex.proofs.Slots.{around, full_front, full_back, joined-append}
 use Rattle.dns_zoneindex.specs.Owned.{path_records}
+use Rattle.dns_zoneindex.specs.Size.{children_size}
 
 pub lent_front : (rs more : List Record) (position : ℕ) → position < length rs → IsLent (rs ++ more) position (drop position rs)
 lent_front rs more position inside = record {
@@ -107,3 +110,82 @@ lent_there slots position slot left run h lent =
 pub first_record : (xs : List Record) → slice_get xs 0 ≡ next_after None xs
 first_record [] = refl
 first_record (x ∷ xs) = refl
+
+-- where each slot has one record, as many are before a slot as slots are
+some_least : (s : List Child) → 0 < length s → AreChildren s → 0 < length (flat s)
+some_least [] f k = absurd (omega (arith, f))
+some_least (c ∷ s) f k = omega (arith, k.0, length-pushed c (flat s))
+
+least : (slots : List (List Child)) → AllFull slots → AreChildren (joined slots) → length slots ≤ length (flat (joined slots))
+least [] f k = omega arith
+least (s ∷ slots) f k =
+    omega (
+      arith,
+      least slots f.1 (children_back s (joined slots) k),
+      some_least s f.0 (children_front s (joined slots) k),
+      length-flat-append s (joined slots),
+    )
+
+pub one_each : (slots : List (List Child)) (count position : ℕ) (s : List Child) → AllFull slots → AreChildren (joined slots) → count ≡ length (flat (joined slots))
+    → count ≡ length slots
+    → slice_get slots position ≡ Some s
+    → IsThere slots position s 0
+one_each slots count position s f k all each at =
+    let a = take position slots in
+    let b = drop (suc position) slots in
+    let is : slots ≡ a ++ (s ∷ b) = around slots position s at in
+    let kept : AreChildren (joined (a ++ (s ∷ b))) = subst (λ x. AreChildren (joined x)) is k in
+    let full : AllFull (a ++ (s ∷ b)) = subst AllFull is f in
+    let parts : AreChildren (joined a ++ (s ++ joined b)) = subst AreChildren (joined-append a (s ∷ b)) kept in
+    let later = children_back (joined a) (s ++ joined b) parts in
+    let there : position < length slots = slice_get_within slots position s at in
+    let long : length a ≡ position = omega (arith, length-take position slots, there) in
+    let front = least a (full_front a (s ∷ b) full) (children_front (joined a) (s ++ joined b) parts) in
+    let back = least b (full_back a (s ∷ b) full).1 (children_back s (joined b) later) in
+    let here = some_least s (full_back a (s ∷ b) full).0 (children_front s (joined b) later) in
+    let sum : length (flat (joined slots)) ≡ length (flat (joined a)) + (length (flat s) + length (flat (joined b))) =
+    ap (λ x. length (flat (joined x))) is
+    ∙ ap (λ x. length (flat x)) (joined-append a (s ∷ b))
+    ∙ length-flat-append (joined a) (s ++ joined b)
+    ∙ ap (λ n. length (flat (joined a)) + n) (length-flat-append s (joined b)) in
+    let total : length slots ≡ length a + suc (length b) = ap length is ∙ length-append a (s ∷ b) in
+    record {
+      front = a;
+      back = b;
+      whole = is;
+      before = omega (arith, all, each, sum, total, front, back, here, long);
+      within = here;
+    }
+
+pub lent_none : (es : List PathRecord) (position : ℕ) → length es ≤ position → IsLent (path_records es) position []
+lent_none es position past = record {
+  run = (drop position (path_records es), refl);
+  some = λ h. absurd (omega (arith, h, past, records_count es));
+}
+
+-- a slot weighs less than all
+sizes_both : (a b : List Child) → children_size (a ++ b) ≡ children_size a + children_size b
+sizes_both [] b = omega arith
+sizes_both (x ∷ a) b = omega (arith, sizes_both a b)
+
+weighs : (slots : List (List Child)) → AllFull slots → length slots ≤ children_size (joined slots)
+weighs [] f = omega arith
+weighs ([] ∷ slots) f = absurd (omega (arith, f.0))
+weighs ((c ∷ s) ∷ slots) f = omega (arith, weighs slots f.1, sizes_both (c ∷ s) (joined slots))
+
+pub slot_smaller : (slots : List (List Child)) (position left : ℕ) (s : List Child) → IsThere slots position s left → AllFull slots → 1 < length slots
+    → children_size s < children_size (joined slots)
+slot_smaller slots position left s h f more =
+    let full : AllFull (h.front ++ (s ∷ h.back)) = subst AllFull h.whole f in
+    omega (
+      arith,
+      more,
+      ap length h.whole,
+      length-append h.front (s ∷ h.back),
+      ap (λ x. children_size (joined x)) h.whole,
+      ap children_size (joined-append h.front (s ∷ h.back)),
+      sizes_both (joined h.front) (s ++ joined h.back),
+      sizes_both s (joined h.back),
+      weighs h.front (full_front h.front (s ∷ h.back) full),
+      weighs h.back (full_back h.front (s ∷ h.back) full).1,
+    )

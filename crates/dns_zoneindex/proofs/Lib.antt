@@ -17,4 +17,5 @@ pub mod Results
 pub mod Set
 pub mod Sides
 pub mod Slots
+pub mod Starts
 pub mod Under

@@ -1,5 +1,5 @@
 -- One label further along a name.
-use Rattle.std.proofs.Common.{◌≡◌, ℕ, ◌<◌, Bool, true, false, cond, not, ◌&&◌, ◌||◌, List, [], ◌∷◌, length, reverse, refl, sym, ap, ◌∙◌, subst}
+use Rattle.std.proofs.Common.{◌≡◌, ℕ, zero, suc, ◌<◌, Bool, true, false, cond, not, ◌&&◌, ◌||◌, List, [], ◌∷◌, length, drop, reverse, refl, sym, ap, ◌∙◌, subst}
 use Rattle.std.specs.Prelude.{Some, None}
 use Rattle.dns_names.specs.Name.{Labels, under, names_eq, wildcard}
 use Rattle.dns_records.specs.Record.{Record}
@@ -117,6 +117,21 @@ stays_above apex es name above l at own is h =
       above = h.above ∙ sym (encloser_up z.records l above gone);
       own_is = h.own_is;
     })
+
+-- the same for a name under it by any number of labels
+pub cut_below : (apex : Labels) (es : List PathRecord) (n : ℕ) (name here at : Labels) (rs : List Record) → here ≡ drop n name
+    → EndsAtCut (zone_of_entries apex es) here at rs
+    → EndsAtCut (zone_of_entries apex es) name at rs
+cut_below apex es zero name here at rs is h = subst (λ x. EndsAtCut (zone_of_entries apex es) x at rs) is h
+cut_below apex es (suc n) [] here at rs is h = subst (λ x. EndsAtCut (zone_of_entries apex es) x at rs) is h
+cut_below apex es (suc n) (l ∷ name) here at rs is h = stays_cut apex es (l ∷ name) name l at rs refl (cut_below apex es n name here at rs is h)
+
+pub above_below : (apex : Labels) (es : List PathRecord) (n : ℕ) (name here at : Labels) (own : List PathRecord) → here ≡ drop n name
+    → LeadsAbove (zone_of_entries apex es) es here at own
+    → LeadsAbove (zone_of_entries apex es) es name at own
+above_below apex es zero name here at own is h = subst (λ x. LeadsAbove (zone_of_entries apex es) es x at own) is h
+above_below apex es (suc n) [] here at own is h = subst (λ x. LeadsAbove (zone_of_entries apex es) es x at own) is h
+above_below apex es (suc n) (l ∷ name) here at own is h = stays_above apex es (l ∷ name) name l at own refl (above_below apex es n name here at own is h)
 
 -- ---- the answers
 pub end_name : (apex : Labels) (es : List PathRecord) (name : Labels) (own : List PathRecord) (rs : List Record) → AreOwned es → LeadsToName (zone_of_entries apex es) es name own → 0 < length own → rs ≡ here_of own → EndsAtName (zone_of_entries apex es) name rs

@@ -1,5 +1,5 @@
 -- The children of slots, around one of the slots.
-use Rattle.std.proofs.Common.{◌≡◌, ℕ, zero, suc, ◌<◌, ◌≤◌, true, false, inl, inr, nat_lt, List, [], ◌∷◌, ◌++◌, get_or, length, map, take, drop, reverse, Some, None, refl, ap, sym, ◌∙◌, subst, append_assoc, arith}
+use Rattle.std.proofs.Common.{◌≡◌, ℕ, zero, suc, ◌-◌, ◌<◌, ◌≤◌, true, false, inl, inr, nat_eq, nat_lt, List, [], ◌∷◌, ◌++◌, get_or, length, map, take, drop, reverse, Some, None, refl, ap, sym, ◌∙◌, subst, append_assoc, arith}
 use Rattle.std.specs.Prelude.{unwrap_or}
 use Rattle.std.specs.List.{slice_get}
 use Rattle.std.specs.Ordering.{is_lt}
@@ -11,14 +11,17 @@ use Rattle.std.specs.declared.cmp.Ordering.TheVariants.{Less, Equal, Greater}
 use Rattle.std.proofs.lemmas.Bool.{cases_order, lt-ltb, le-ltb}
 use Rattle.std.proofs.lemmas.Option.{slice_get_within, slice_get_read}
 use Rattle.std.proofs.lemmas.List.{length-append, take-append-drop, append-nil, reverse-append}
+use Rattle.std.proofs.lemmas.Bool.Decides.{eqb_tells}
 use Rattle.dns_zone.specs.Order.{bytes_same, bytes_itself}
+use Rattle.dns_zone.specs.Sets.{true_or_false}
 use Rattle.dns_zoneindex.specs.Entries.{Child, flat}
 use Rattle.dns_zoneindex.specs.Children.{label_cmp, joined, AllChildren, AreChildren, AllFull, IsFirstKey}
 use Rattle.dns_zoneindex.specs.Assoc.{child_of, put_child, without_child}
-use Rattle.dns_zoneindex.specs.Keys.{IsKey}
-use Rattle.dns_zoneindex.specs.Slots.{is_before, IsPlace}
+use Rattle.dns_zoneindex.specs.Keys.{IsKey, leading}
+use Rattle.dns_zoneindex.specs.Slots.{is_before, HasAlone, IsPlace}
 use Rattle.dns_zoneindex.proofs.Counts.{length-pushed}
-use Rattle.dns_zoneindex.proofs.Keys.{key_below, key_above, key_equal}
+use Rattle.dns_zoneindex.proofs.Keys.{key_below, key_above, key_equal, ends_same}
+use Rattle.std.specs.Int.{w64, from_be_bytes}
 use Rattle.dns_zoneindex.proofs.Under.{labels_same}
 use Rattle.dns_zoneindex.proofs.Sides.{label_total, all_map, children_front, children_back, past, child_past, put_past, without_past, child_before, put_before, without_before}
 
@@ -73,6 +76,31 @@ pub called : (k o : ℕ) (q m : List ℕ) → IsKey k q → IsKey o m → k ≡ 
 called k o q m p r h e short =
     let same = labels_same q m (sym (key_equal k o q m p r h short) ∙ sym (nat_cmp_is (length q) (length m) Equal e)) in
     sym (ap (λ x. bytes_eq q x) (sym same) ∙ bytes_itself q)
+
+-- and only such a label
+pub told_by_key : (k o : ℕ) (q m : List ℕ) → IsKey k q → IsKey o m → length q ≡ length m → length q ≤ 8 → nat_eq k o ≡ bytes_eq q m
+told_by_key k o q m p r e short = elim (eqb_tells k o) [
+  | inl y ↦ y.0 ∙ called k o q m p r y.1 e short
+  | inr n ↦ n.0 ∙ sym (elim (true_or_false (bytes_eq q m)) [
+    | inl s ↦ absurd (n.1 (p.0 ∙ ap (leading 8) (bytes_same q m s) ∙ sym r.0))
+    | inr d ↦ d
+  ])
+]
+
+-- the same of labels of nine to sixteen octets, by their last eight
+pub told_by_ends : (key x y : ℕ) (q m end own_end : List ℕ) → IsKey key q → IsKey key m → length q ≡ length m → 8 < length q → length q ≤ 16
+    → end ≡ drop (length q - 8) q
+    → own_end ≡ drop (length m - 8) m
+    → x ≡ from_be_bytes w64 end
+    → y ≡ from_be_bytes w64 own_end
+    → nat_eq x y ≡ bytes_eq q m
+told_by_ends key x y q m end own_end p r same more few e f xs ys = elim (eqb_tells x y) [
+  | inl s ↦ s.0 ∙ sym (ap (bytes_eq q) (sym (ends_same key q m end own_end p r same more few e f (sym xs ∙ s.1 ∙ ys))) ∙ bytes_itself q)
+  | inr n ↦ n.0 ∙ sym (elim (true_or_false (bytes_eq q m)) [
+    | inl s ↦ absurd (n.1 (xs ∙ ap (from_be_bytes w64) (e ∙ ap (λ l. drop (length l - 8) l) (bytes_same q m s) ∙ sym f) ∙ sym ys))
+    | inr d ↦ d
+  ])
+]
 
 -- one child
 equal : (q m : List ℕ) → bytes_eq q m ≡ true → label_cmp q m ≡ Equal
@@ -263,3 +291,19 @@ without_in q all slots lent come made p s t is h same e l m =
     joined_in slots lent come made p (without_child q s) l m (e ∙ ap (without_child q) same)
     ∙ sym (without_at q slots p s h.1 h.0)
     ∙ ap (without_child q) is
+
+-- a child that is alone in a slot, and has the label
+pub child_alone : (q : List ℕ) (slots : List (List Child)) (c : Child) → HasAlone slots c → AreChildren (joined slots) → AllFull slots
+    → bytes_eq q c.label ≡ true
+    → child_of q (joined slots) ≡ Some c
+child_alone q slots c h kept full called =
+    let p = h.position in
+    let s = c ∷ [] in
+    let k : AreChildren (joined (take p slots) ++ (s ++ joined (drop (suc p) slots))) = subst AreChildren (joined_around slots p s h.is) kept in
+    let later = children_back (joined (take p slots)) (s ++ joined (drop (suc p) slots)) k in
+    child_at q slots p s h.is (record {
+      there = slice_get_within slots p s h.is;
+      ahead = ahead_to q slots p s h.is kept full (ap is_lt (equal q c.label called));
+      behind = subst (λ x. AllChildren (λ y. label_cmp x y.label ≡ Less) (joined (drop (suc p) slots))) (sym (bytes_same q c.label called)) later.1;
+    })
+    ∙ child_one q c called

@@ -2,8 +2,12 @@
 use Rattle.std.specs.Prelude.{◌≡◌, ℕ, ◌+◌, ◌<◌, ◌≤◌, List, ◌∷◌, ◌++◌, length}
 use Rattle.dns_records.specs.Record.{Record}
 use Rattle.dns_zone.specs.Places.{IsRun}
-use Rattle.dns_zoneindex.specs.Entries.{Child, flat}
-use Rattle.dns_zoneindex.specs.Children.{joined}
+use Rattle.dns_zoneindex.specs.Entries.{PathRecord, Child, flat}
+use Rattle.dns_zoneindex.specs.Children.{items, joined}
+use Rattle.dns_zoneindex.specs.Owned.{path_records}
+use Rattle.dns_zoneindex.specs.Size.{children_size, weight}
+use Rattle.dns_zoneindex.specs.declared.run.Step.{Step}
+use Rattle.dns_zoneindex.specs.declared.run.Step.TheVariants as found
 
 -- The run starts at this index, and has a record where one is left.
 pub record IsLent (records : List Record) (position : ℕ) (lent : List Record) : Type 0 where
@@ -21,3 +25,12 @@ pub record IsThere (slots : List (List Child)) (position : ℕ) (slot : List Chi
 -- The index is past the records of all slots.
 abbrev pub IsBeyond : List (List Child) → ℕ → Type 0
 IsBeyond slots position = length (flat (joined slots)) ≤ position
+
+-- The records are these; or the run of the children that starts at another index is the run of these, and the
+-- children weigh less.
+abbrev pub IsStep : List PathRecord → ℕ → Step → Type 0
+IsStep own position (found.Run run) = IsLent (path_records own) position run.now
+IsStep own position (found.Below children left) =
+    (children_size (items children.now) ≤ weight own)
+    × ((run : List Record) → IsLent (path_records (flat (items children.now))) left run
+    → IsLent (path_records own) position run)

@@ -7,6 +7,7 @@ pub mod Keys
 pub mod Assoc
 pub mod Slots
 pub mod Setting
+pub mod Starts
 pub mod Tree
 pub mod Owned
 pub mod Lent

@@ -4,11 +4,9 @@ use Rattle.std.specs.Prelude.{◌≡◌, false, List, reverse, None}
 use Rattle.dns_names.specs.Name.{Labels}
 use Rattle.dns_zone.specs.Records.{exists}
 use Rattle.dns_zone.specs.Zone.{Zone}
-use Rattle.dns_zone.specs.Node.{cut, encloser, EndsAtCut}
+use Rattle.dns_zone.specs.Node.{cut, encloser}
 use Rattle.dns_zoneindex.specs.Entries.{PathRecord, below}
 use Rattle.dns_zoneindex.specs.Owned.{path_records}
-use Rattle.dns_zoneindex.specs.declared.descent.Reached.{Reached}
-use Rattle.dns_zoneindex.specs.declared.descent.Reached.TheVariants as found
 
 abbrev pub zone_of_entries : Labels → List PathRecord → Zone
 zone_of_entries apex es = record { apex = apex; records = path_records es }
@@ -30,8 +28,3 @@ pub record LeadsAbove (z : Zone) (es : List PathRecord) (name at : Labels) (own 
   pub absent : exists z.records name ≡ false
   pub above : at ≡ encloser z.records name
   pub own_is : own ≡ below (reverse at) es
-
-abbrev pub IsReached : Zone → List PathRecord → Labels → Reached → Type 0
-IsReached z es name (found.Cut at owned) = EndsAtCut z name at owned.now
-IsReached z es name (found.There node) = LeadsToName z es name node.now.own
-IsReached z es name (found.Above at node) = LeadsAbove z es name at node.now.own

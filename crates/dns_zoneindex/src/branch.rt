@@ -8,7 +8,7 @@ ghost use Rattle.dns_zoneindex.specs.Keys.{IsKey};
 ghost use Rattle.std.specs.Str.{bytes_eq};
 
 use crate::count::sum;
-use crate::key::key_of;
+use crate::key::{end_alike, key_of};
 use crate::node::{Branch, Children, Node};
 use crate::records::Records;
 use dns_memory::Heap;
@@ -83,6 +83,7 @@ impl Branch {
     }
 
     /// The child of a label.
+    #[inline(always)]
     pub(crate) fn child(&self, label: &[u8]) -> Option<&Node>
         ensures found { own_at (option_copied result) ≡ under_label label.now self.now.own }
         ensures kept { 0 < length self.now.own }
@@ -124,6 +125,6 @@ impl Branch {
         if label.len() <= 8 {
             return true;
         }
-        label == own.as_slice()
+        end_alike(key, label, own.as_slice())
     }
 }

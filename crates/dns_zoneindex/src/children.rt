@@ -9,8 +9,10 @@ ghost use Rattle.dns_zoneindex.specs.Setting.{keep, before, behind};
 ghost use Rattle.dns_zoneindex.specs.Keys.{IsKey};
 ghost use Rattle.dns_zoneindex.specs.Assoc.{child_of, put_child, without_child};
 
-use crate::group::{children_in, gathered, one, place_of, place_to_find, replaced, two};
-use crate::key::key_of;
+use crate::group::{
+    children_in, gathered, one, only_tied, place_alone, place_of, place_to_find, replaced, two,
+};
+use crate::key::{key_further, key_of};
 use crate::node::{Children, Group, Node, Slot};
 use dns_memory::Heap;
 use std::alloc::AllocError;
@@ -97,6 +99,8 @@ impl Children {
         ensures { option_copied result ≡ child_of label.now (items self.now) }
     {
         let mut here = self;
+        let mut after = 0;
+        let mut rest_key = key;
         'down: loop {
             match here {
                 Children::Empty => return None,
@@ -114,6 +118,20 @@ impl Children {
                         whole,
                         ..
                     } = &**group;
+                    if *whole {
+                        let here_key = key_further(after, rest_key, *skip, label);
+                        if let Some(position) = place_alone(keys, slots, here_key) {
+                            here = &slots[position].children;
+                            after = *skip;
+                            rest_key = here_key;
+                            continue 'down;
+                        }
+                        if let Some(node) = only_tied(keys, slots, here_key) {
+                            if node.is_called(key, label) {
+                                return Some(node);
+                            }
+                        }
+                    }
                     let position = place_to_find(keys, slots, *skip, *whole, key, label);
                     here = &slots[position].children;
                 }

@@ -1,6 +1,7 @@
 //! Slots of neighbouring children, and the groups that they make: a tree of which each group has few slots,
 //! so that few of them are looked at where a child is looked for.
-ghost use Rattle.std.specs.Prelude.{◌≡◌, ◌++◌, ◌∷◌, [], ◌<◌, ℕ, true, suc, take, drop, length, IfOk, OnOk};
+ghost use Rattle.std.specs.Prelude.{◌≡◌, ◌++◌, ◌∷◌, [], ◌<◌, ℕ, true, suc};
+ghost use Rattle.std.specs.Prelude.{take, drop, length, IfOk, IfSome, OnOk};
 ghost use Rattle.std.specs.Option.{option_copied};
 ghost use Rattle.std.specs.declared.cmp.Ordering.TheVariants.{Greater};
 ghost use Rattle.dns_zoneindex.specs.Children.{items, joined, label_cmp, AllChildren, AreChildren, AllFull};
@@ -8,7 +9,8 @@ ghost use Rattle.dns_zoneindex.specs.Children.{AreKeys, IsFirstKey, BeginAlike, 
 ghost use Rattle.dns_zoneindex.specs.Children.{AreAlike, IsSharedPrefix};
 ghost use Rattle.dns_zoneindex.specs.Entries.{flat};
 ghost use Rattle.dns_zoneindex.specs.Keys.{IsKey};
-ghost use Rattle.dns_zoneindex.specs.Slots.{is_before, IsFoundAt, IsPlace};
+ghost use Rattle.dns_zoneindex.specs.Slots.{is_before, HasAlone, IsFoundAt, IsLastUpTo};
+ghost use Rattle.dns_zoneindex.specs.Slots.{IsPlace, IsPlaceOfKey};
 
 use crate::count::sum;
 use crate::key::{begin_alike, key_after, order, shared};
@@ -157,6 +159,14 @@ fn shared_by(a: Option<&Node>, b: Option<&Node>) -> u8
     }
 }
 
+/// Whether the keys of whole labels differ between the last child of a slot and the first of the next.
+fn are_apart(slot: &Slot, next: &Slot) -> bool {
+    match (slot.children.last(), next.children.first()) {
+        (Some(last), Some(first)) => last.key() != first.key(),
+        _ => false,
+    }
+}
+
 /// How many octets a group of the slots skips, and whether the labels of all children begin with them. None
 /// are skipped where the keys of whole labels differ.
 fn beginning_of(slots: &[Slot]) -> (u8, bool)
@@ -171,6 +181,9 @@ fn beginning_of(slots: &[Slot]) -> (u8, bool)
         return (0, true);
     }
     let first = &slots[0];
+    if slots.len() == 2 && are_apart(first, second) {
+        return (0, true);
+    }
     let all = shared_by(first.children.first(), last.children.last());
     if all >= 8 {
         return (all, true);
@@ -179,19 +192,57 @@ fn beginning_of(slots: &[Slot]) -> (u8, bool)
     (later, false)
 }
 
-/// The last index whose key is at most this one, or the first index where there is none. The keys rise. So
-/// three of them tell in which quarter it is, and three the index there; they are counted, so that no jump
-/// depends on one of them.
+/// An index whose key is at most this one, if it isn't the first, while the next key is greater. The keys
+/// rise, so four of them tell it, without a jump that depends on one of them.
 #[inline(always)]
-fn last_up_to(keys: &[u64; MOST], key: u64) -> usize {
-    let quarters = usize::from(keys[4] <= key)
-        + usize::from(keys[8] <= key)
-        + usize::from(keys[12] <= key);
-    let first = 4 * quarters;
-    first
-        + usize::from(keys[first + 1] <= key)
-        + usize::from(keys[first + 2] <= key)
-        + usize::from(keys[first + 3] <= key)
+fn last_up_to(keys: &[u64; MOST], key: u64) -> usize
+    ensures { IsLastUpTo key keys.now result }
+{
+    let mut position = 0;
+    if keys[8] <= key {
+        position = 8;
+    }
+    if keys[position + 4] <= key {
+        position += 4;
+    }
+    if keys[position + 2] <= key {
+        position += 2;
+    }
+    if keys[position + 1] <= key {
+        position += 1;
+    }
+    position
+}
+
+/// The index of the slot that holds the child of a label, or would hold it, if the keys alone determine it.
+#[inline(always)]
+pub(crate) fn place_alone(keys: &[u64; MOST], slots: &[Slot], key: u64) -> Option<usize>
+    ensures there { IfSome result (λ p. p < length slots.now) }
+    ensures position { IfSome result (λ p. IsPlaceOfKey keys.now key slots.now p) }
+{
+    let position = last_up_to(keys, key);
+    if position > 0 && keys[position] == key {
+        return None;
+    }
+    if position + 1 == MOST && slots.len() != MOST {
+        return None;
+    }
+    if position < slots.len() {
+        return Some(position);
+    }
+    None
+}
+
+/// The only child of a slot whose key is that of a label.
+#[inline(always)]
+pub(crate) fn only_tied<'s>(keys: &[u64; MOST], slots: &'s [Slot], key: u64) -> Option<&'s Node>
+    ensures { IfSome result (λ node. HasAlone slots.now node.now) }
+{
+    let Slot { children, .. } = slots.get(last_up_to(keys, key))?;
+    match children {
+        Children::One(node) => Some(node),
+        _ => None,
+    }
 }
 
 /// The index of the slot that holds the child of a label, or would hold it, by bisection.
@@ -322,7 +373,7 @@ pub(crate) fn place_of(
 
 /// The index of the slot that holds the child of a label, if there is one. Where the labels of all children
 /// begin alike, it isn't tested whether this one does: if not, it is found in no slot.
-#[inline(always)]
+#[inline(never)]
 pub(crate) fn place_to_find(
     keys: &[u64; MOST],
     slots: &[Slot],

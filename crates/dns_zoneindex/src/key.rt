@@ -1,7 +1,9 @@
 //! Labels by their first octets as one number, which decides most comparisons of two labels in one step.
-ghost use Rattle.std.specs.Prelude.{◌≡◌, ℕ, true, take, drop, get_or};
+ghost use Rattle.std.specs.Prelude.{◌≡◌, ◌<◌, ◌≤◌, ◌-◌, ℕ, List, true, take, drop, get_or, length};
 ghost use Rattle.dns_zoneindex.specs.Children.{label_cmp};
-ghost use Rattle.dns_zoneindex.specs.Keys.{IsKey};
+ghost use Rattle.dns_zoneindex.specs.Keys.{IsKey, leading};
+ghost use Rattle.dns_names.specs.Lower.{AreOctets};
+ghost use Rattle.std.specs.Str.{bytes_eq};
 
 use crate::node::Node;
 use std::cmp::Ordering;
@@ -17,18 +19,45 @@ fn octet_at(label: &[u8], position: usize) -> u8
 }
 
 /// The first eight octets of a label as a number, the first of them highest, with zeros after the last one.
+#[inline(always)]
 pub(crate) fn key_of(label: &[u8]) -> u64
+    ensures { IsKey result label.now }
+{
+    if let Some(front) = label.first_chunk::<8>() {
+        return u64::from_be_bytes(*front);
+    }
+    let (Some(front), Some(back)) = (label.first_chunk::<4>(), label.last_chunk::<4>()) else {
+        return key_of_few(label);
+    };
+    key_of_halves(*front, *back, label.len())
+}
+
+/// The key of a label of four to eight octets by its first four and its last four, which may overlap.
+#[inline(always)]
+fn key_of_halves(front: [u8; 4], back: [u8; 4], len: usize) -> u64
+    requires few { len ≤ 8 }
+    requires more { 4 ≤ len }
+    ensures { (label : List ℕ) → length label ≡ len → front ≡ take 4 label → back ≡ drop (len - 4) label
+        → AreOctets label → result ≡ leading 8 label }
+{
+    let behind = u64::from(u32::from_be_bytes(back)) << (8 * (8 - len));
+    (u64::from(u32::from_be_bytes(front)) << 32) + behind % (1 << 32)
+}
+
+/// The key of a label of up to three octets.
+fn key_of_few(label: &[u8]) -> u64
+    requires { length label.now < 4 }
     ensures { IsKey result label.now }
 {
     u64::from_be_bytes([
         octet_at(label, 0),
         octet_at(label, 1),
         octet_at(label, 2),
-        octet_at(label, 3),
-        octet_at(label, 4),
-        octet_at(label, 5),
-        octet_at(label, 6),
-        octet_at(label, 7),
+        0,
+        0,
+        0,
+        0,
+        0,
     ])
 }
 
@@ -41,6 +70,18 @@ pub(crate) fn key_after(skip: u8, label: &[u8]) -> u64
         Some(rest) => key_of(rest),
         None => 0,
     }
+}
+
+/// The same where the key without another number of octets is known.
+#[inline(always)]
+pub(crate) fn key_further(after: u8, key: u64, skip: u8, label: &[u8]) -> u64
+    requires { IsKey key (drop after label.now) }
+    ensures { IsKey result (drop skip label.now) }
+{
+    if skip == after {
+        return key;
+    }
+    key_after(skip, label)
 }
 
 /// Whether so many octets at the beginnings of two labels are the same.
@@ -78,4 +119,41 @@ pub(crate) fn order(skip: u8, label: &[u8], node: &Node) -> Ordering
         return label.len().cmp(&node.label().len());
     }
     label.cmp(node.label())
+}
+
+/// Whether two labels are the same, of which one has this key. Of up to eight octets the key tells all but
+/// how many they are.
+#[inline(always)]
+pub(crate) fn is_same(key: u64, label: &[u8], own: &[u8]) -> bool
+    requires { IsKey key label.now }
+    ensures { result ≡ bytes_eq label.now own.now }
+{
+    if label.len() != own.len() {
+        return false;
+    }
+    if label.len() <= 8 {
+        return key == key_of(own);
+    }
+    if key != key_of(own) {
+        return false;
+    }
+    end_alike(key, label, own)
+}
+
+/// Whether two labels of one length and one key are the same, if they have more than eight octets. Of up to
+/// sixteen the last eight tell it.
+#[inline(always)]
+pub(crate) fn end_alike(key: u64, label: &[u8], own: &[u8]) -> bool
+    requires key { IsKey key label.now }
+    requires own_key { IsKey key own.now }
+    requires same { length label.now ≡ length own.now }
+    requires more { 8 < length label.now }
+    ensures { result ≡ bytes_eq label.now own.now }
+{
+    if label.len() <= 16 {
+        if let (Some(end), Some(own_end)) = (label.last_chunk::<8>(), own.last_chunk::<8>()) {
+            return u64::from_be_bytes(*end) == u64::from_be_bytes(*own_end);
+        }
+    }
+    label == own
 }

@@ -11,7 +11,7 @@ ghost use Rattle.std.specs.Str.{bytes_eq};
 
 use crate::branch::first_label;
 use crate::group::MOST;
-use crate::key::key_of;
+use crate::key::{is_same, key_of};
 use crate::path::split;
 use crate::records::Records;
 use dns_memory::Heap;
@@ -341,6 +341,7 @@ impl Node {
     }
 
     /// The child of a label.
+    #[inline(always)]
     pub(crate) fn child(&self, label: &[u8]) -> Option<&Node>
         ensures found { own_at (option_copied result) ≡ under_label label.now self.now.own }
         ensures kept { 0 < length self.now.own }
@@ -466,7 +467,7 @@ impl Node {
         ensures { result ≡ bytes_eq label.now self.now.label }
     {
         match &self.kind {
-            Kind::Leaf(record) => label == first_label(record),
+            Kind::Leaf(record) => is_same(key, label, first_label(record)),
             Kind::Branch(branch) => branch.is_called(key, label),
         }
     }

@@ -9,6 +9,9 @@ use Rattle.dns_zoneindex.proofs.group.beginning_of.Goals as goal
 pub returns-then-second-last : goal.returns-then-second-last
 returns-then-second-last c = beginning_none c.args.slots.now true
 
+pub returns-then-are_apart : goal.returns-then-are_apart
+returns-then-are_apart c = beginning_none c.args.slots.now true
+
 pub returns-then-all-ge8 : goal.returns-then-all-ge8
 returns-then-all-ge8 c =
     let slots = c.args.slots.now in

@@ -1,4 +1,4 @@
-use Rattle.std.proofs.Common.{◌≡◌, ◌+◌, suc, length, drop, Some, refl, subst, arith}
+use Rattle.std.proofs.Common.{◌≡◌, ◌+◌, suc, length, Some, refl, subst, arith}
 use Rattle.std.specs.List.{slice_get}
 use Rattle.std.proofs.lemmas.Option.{slice_get_read}
 use Rattle.dns_zoneindex.proofs.Beside.{before_later}

@@ -1,11 +1,8 @@
-use Rattle.std.proofs.Common.{◌∙◌, arith}
-use Rattle.dns_zoneindex.proofs.Keys.{key_of_octets}
+use Rattle.std.proofs.Common.{refl, arith}
+use Rattle.dns_names.specs.Lower.{AreOctets}
 use Rattle.dns_zoneindex.proofs.key.key_of.Goals as goal
 
 pub returns : goal.returns
-returns c = (
-  c.from_be_bytes.ensures
-      ∙ key_of_octets c.args.label.now c.octet_at.ensures c.octet_at-2.ensures c.octet_at-3.ensures c.octet_at-4.ensures c.octet_at-5.ensures
-      c.octet_at-6.ensures c.octet_at-7.ensures c.octet_at-8.ensures,
-  λ i. omega (arith, c.type_inv.label i),
-)
+returns c =
+    let octets : AreOctets c.args.label.now = λ i. omega (arith, c.type_inv.label i) in
+    (c.key_of_halves.ensures c.args.label.now refl c.in-Some-Some.ensures.cases.same c.in-Some-Some.ensures'.cases.1.same octets, octets)

@@ -1,4 +1,4 @@
-use Rattle.std.proofs.Common.{◌≤◌, ◌+◌, length, refl, ap, ◌∙◌, arith}
+use Rattle.std.proofs.Common.{◌≤◌, ◌+◌, length, ap, ◌∙◌, arith}
 use Rattle.std.specs.Ordering.{nat_cmp}
 use Rattle.dns_zoneindex.proofs.Fronts.{key_equal_after}
 use Rattle.dns_zoneindex.proofs.key.order.Goals as goal

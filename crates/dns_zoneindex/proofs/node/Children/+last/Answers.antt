@@ -1,6 +1,5 @@
 use Rattle.std.proofs.Common.{◌≡◌, ◌-◌, suc, length, Some, sym, ap, ◌∙◌, arith}
 use Rattle.std.specs.List.{slice_get}
-use Rattle.std.proofs.lemmas.Option.{slice_get_within}
 use Rattle.dns_zoneindex.specs.Children.{items, last_of}
 use Rattle.dns_zoneindex.proofs.Fronts.{last_joined}
 use Rattle.dns_zoneindex.proofs.node.Children.+last.Goals as goal
