@@ -182,15 +182,16 @@ fn reply_of_none(
     requires question { length question.octets.now < 65524 }
     ensures { IfOk result (λ octets. (q : Question)
         → Echoes message.now.octets q question.entry
-        → octets.items ≡ fitted transport (with_question message.now.octets message.now.message q rcode_refused)) }
+        → octets.items
+        ≡ fitted transport (with_question message.now.octets message.now.message q rcode_refused)) }
 {
     let none = LentSections::none();
     let mut reply = reply_with_question(message, question, false, Rcode::Refused, none);
     fit(alloc, &mut reply, transport)
 }
 
-/// The reply to a question whose name was searched, if one record answers it and is written in one piece. Most
-/// questions are such, and their replies take no memory but for their octets.
+/// The reply to a question whose name was searched, if one record answers it and is written in one piece.
+/// Most questions are such, and their replies take no memory but for their octets.
 #[inline(always)]
 fn reply_of_one(
     alloc: Heap,

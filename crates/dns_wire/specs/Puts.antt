@@ -65,7 +65,7 @@ abbrev pub name_end : Option ℕ → List ℕ
 name_end None = 0 ∷ []
 name_end (Some offset) = pointer offset
 
--- The labels of a name are written, within the limit, with the table of targets as stated, and its end is left.
+-- The labels of a name are written, within the limit, the table of targets is as stated, and its end is left.
 pub record WroteLabels (limit : ℕ) (before after : List ℕ) (limit' : ℕ) (places' : List Place)
     (whole : Compressing) (found : Option ℕ) : Type 0 where
   pub octets : before ++ whole.octets ≡ after ++ name_end found
@@ -86,7 +86,8 @@ behind_owner places at r =
 
 -- The octets are those of a record after the labels of its owner, and add no target.
 pub record IsBehindLabels (found : Option ℕ) (r : Record) (octets : List ℕ) : Type 0 where
-  pub octets-are : (places : List Place) (at : ℕ) → octets ≡ name_end found ++ (behind_owner places at r).octets
+  pub octets-are : (places : List Place) (at : ℕ)
+      → octets ≡ name_end found ++ (behind_owner places at r).octets
   pub places-are : (places : List Place) (at : ℕ) → places ≡ (behind_owner places at r).places
 
 -- The target for a suffix at an offset, if a pointer can name the offset.
