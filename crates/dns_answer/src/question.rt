@@ -114,6 +114,7 @@ fn reply_of_all_sections<'a, I: ZoneIndex>(
 #[inline(always)]
 fn reply_of_short<'a, I: ZoneIndex>(
     alloc: Heap,
+    spare: &mut Vec<u8, Heap>,
     zones: &'a [Zone<I>],
     reply: Reply<'_, 'a>,
     transport: Transport,
@@ -137,6 +138,9 @@ fn reply_of_short<'a, I: ZoneIndex>(
                 additional: sections.additional,
                 ..reply
             };
+            if let Some(octets) = Writer::write_soa(alloc, spare, &whole)? {
+                return Ok(octets);
+            }
             fit(alloc, &mut whole, transport)
         }
     }
@@ -147,26 +151,28 @@ fn reply_of_short<'a, I: ZoneIndex>(
 #[inline(never)]
 fn reply_of_more<'a, I: ZoneIndex>(
     alloc: Heap,
+    spare: &mut Vec<u8, Heap>,
     zones: &'a [Zone<I>],
-    message: &Message<'_>,
+    query: &RequestMessage<'_>,
     question: EchoedQuestion<'a>,
-    qtype: u16,
     transport: Transport,
     first: Found<'a>,
 ) -> Result<Vec<u8, Heap>, AllocError>
     requires question { length question.octets.now < 65524 }
-    requires first { IsFirst zones.now qtype first }
+    requires first { IsFirst zones.now query.now.question.qtype first }
     requires name { first.name ≡ question.name }
     ensures { IfOk result
-        (λ octets. AreReplyFor message.now question.entry zones.now qtype transport octets.items) }
+        (λ octets. AreReplyFor query.now.message question.entry zones.now query.now.question.qtype transport
+        octets.items) }
 {
+    let qtype = query.question.qtype();
     let searched = resolve(alloc, zones, first, qtype)?;
     let found = searched.as_slice();
     let aa = is_authoritative(found);
-    let bare = reply_with_question(message, question, aa, rcode_of(found), LentSections::none());
+    let bare = reply_with_question(&query.message, question, aa, rcode_of(found), LentSections::none());
     let short = short_reply(alloc, zones, found);
     match &short {
-        Ok(short) => reply_of_short(alloc, zones, bare, transport, found, short),
+        Ok(short) => reply_of_short(alloc, spare, zones, bare, transport, found, short),
         Err(AllocError) => Err(AllocError),
     }
 }
@@ -195,6 +201,7 @@ fn reply_of_none(
 #[inline(always)]
 fn reply_of_one(
     alloc: Heap,
+    spare: &mut Vec<u8, Heap>,
     message: &Message<'_>,
     question: &EchoedQuestion<'_>,
     first: &Found<'_>,
@@ -208,30 +215,33 @@ fn reply_of_one(
         return Ok(None);
     };
     let desired = message.is_recursion_desired();
-    Writer::write_one(alloc, message.id(), desired, question, one)
+    Writer::write_one(alloc, spare, message.id(), desired, question, one)
 }
 
 /// The reply to a question: REFUSED where its name is under no held apex.
 #[inline(always)]
 fn answer<'a, I: ZoneIndex>(
     alloc: Heap,
+    spare: &mut Vec<u8, Heap>,
     zones: &'a [Zone<I>],
-    message: &Message<'_>,
+    query: &RequestMessage<'_>,
     question: EchoedQuestion<'a>,
-    qtype: u16,
     transport: Transport,
 ) -> Result<Vec<u8, Heap>, AllocError>
     requires { length question.octets.now < 65524 }
     ensures { IfOk result
-        (λ octets. AreReplyFor message.now question.entry zones.now qtype transport octets.items) }
+        (λ octets. AreReplyFor query.now.message question.entry zones.now query.now.question.qtype transport
+        octets.items) }
 {
+    let message = &query.message;
+    let qtype = query.question.qtype();
     let Some(first) = search(zones, question.name.reborrow(), qtype) else {
         return reply_of_none(alloc, message, question, transport);
     };
-    if let Some(octets) = reply_of_one(alloc, message, &question, &first)? {
+    if let Some(octets) = reply_of_one(alloc, spare, message, &question, &first)? {
         return Ok(octets);
     }
-    reply_of_more(alloc, zones, message, question, qtype, transport, first)
+    reply_of_more(alloc, spare, zones, query, question, transport, first)
 }
 
 /// The reply to a query whose name has capitals, which are lowered first. It is compiled apart, so that other
@@ -239,6 +249,7 @@ fn answer<'a, I: ZoneIndex>(
 #[inline(never)]
 fn reply_in_lower_case<I: ZoneIndex>(
     alloc: Heap,
+    spare: &mut Vec<u8, Heap>,
     zones: &[Zone<I>],
     query: &RequestMessage<'_>,
     transport: Transport,
@@ -249,15 +260,16 @@ fn reply_in_lower_case<I: ZoneIndex>(
         (answered zones.now query.now.message.octets query.now.message.message query.now.question)) }
 {
     let name = query.question.name().to_name(alloc)?;
-    let qtype = query.question.qtype();
     let question = echoed(query.message.question_octets(), name.lend());
-    answer(alloc, zones, &query.message, question, qtype, transport)
+    answer(alloc, spare, zones, query, question, transport)
 }
 
 /// The reply to a query, octet for octet as it is defined, with its question: what the lookup finds, or
-/// REFUSED where its name is under no held apex.
+/// REFUSED where its name is under no held apex. Where one record answers it, it takes the memory of the spare
+/// octets, if they have room.
 pub fn reply<I: ZoneIndex>(
     alloc: Heap,
+    spare: &mut Vec<u8, Heap>,
     zones: &[Zone<I>],
     query: &RequestMessage<'_>,
     transport: Transport,
@@ -269,11 +281,10 @@ pub fn reply<I: ZoneIndex>(
 {
     let asked = query.question.name();
     let Some(name) = asked.as_plain() else {
-        return reply_in_lower_case(alloc, zones, query, transport);
+        return reply_in_lower_case(alloc, spare, zones, query, transport);
     };
-    let qtype = query.question.qtype();
     let question = echoed(query.message.question_octets(), name);
-    answer(alloc, zones, &query.message, question, qtype, transport)
+    answer(alloc, spare, zones, query, question, transport)
 }
 
 /// The reply to a query that is not served: its question, and the response code.

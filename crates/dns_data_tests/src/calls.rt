@@ -235,7 +235,7 @@ pub(crate) fn answered(heap: Heap, octets: &[u8]) -> Told {
         return Err(Refused::Otherwise);
     };
     let zones = [zone(heap)?];
-    let reply = reply(heap, &zones, &query, Transport::Tcp)?;
+    let reply = reply(heap, &mut Vec::new(heap), &zones, &query, Transport::Tcp)?;
     Ok(reply.len())
 }
 

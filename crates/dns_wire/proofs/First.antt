@@ -37,6 +37,11 @@ none_longer at (label ∷ rest) suffix h =
     passed at label rest suffix (at + 1 + length label) refl (apart (label ∷ rest) suffix (λ same. omega (arith, same, h)))
     ∙ none_longer (at + 1 + length label) rest suffix (omega (arith, h, length-append label (wire rest)))
 
+-- the root is at no position
+pub no_root : (at : ℕ) (name : Labels) → offset_at (new_places [] at name) [] ≡ None
+no_root at [] = refl
+no_root at (label ∷ rest) = passed at label rest [] (at + 1 + length label) refl refl ∙ no_root (at + 1 + length label) rest
+
 -- the suffix is looked for after a label of a longer name
 pub looked_on : (at : ℕ) (octets suffix behind : List ℕ) (after : ℕ) (f : FirstLabel octets) → IsPlain octets → IsPlain suffix → length suffix < length octets → after ≡ at + 1 + length f.label → labels_of behind ≡ f.rest
     → offset_at (new_places [] at (labels_of octets)) (labels_of suffix) ≡ offset_at (new_places [] after (labels_of behind)) (labels_of suffix)

@@ -1,7 +1,7 @@
 -- Plain forms, label by label.
 use Rattle.std.proofs.Common.{◌≡◌, ℕ, suc, ◌+◌, ◌<◌, ◌≤◌, Bool, true, false, List, [], ◌∷◌, ◌++◌, length, get_or, take, drop, refl, sym, ap, subst, ◌∙◌, arith}
 use Rattle.std.specs.Str.{bytes_eq}
-use Rattle.std.proofs.lemmas.List.{length-append, take-append-drop, take_at, drop_at}
+use Rattle.std.proofs.lemmas.List.{length-append, take_at, drop_at}
 use Rattle.dns_names.specs.Name.{Labels, IsName, wire, names_eq, labels_of}
 use Rattle.dns_names.specs.Plain.{IsPlain}
 use Rattle.dns_names.specs.PlainLaws.{plain_of}
@@ -74,19 +74,3 @@ no_label octets h none = go (labels_of octets) refl
         let f = first_of_labels octets label rest is (sym h.whole ∙ ap wire is) (subst IsName is h.valid) in
         let more : 1 + length f.label < length octets = f.more in
         absurd (omega arith)
-
--- octets that differ in their first words, and ones that do not
-pub words_apart : (a b : List ℕ) → bytes_eq (take 8 a) (take 8 b) ≡ false → false ≡ bytes_eq a b
-words_apart a b h = go (bytes_eq a b) refl
-  where
-    go : (t : Bool) → bytes_eq a b ≡ t → false ≡ t
-    go false e = refl
-    go true e = sym h ∙ ap (λ (x : List ℕ). bytes_eq (take 8 x) (take 8 b)) (bytes_same a b e) ∙ bytes_self (take 8 b)
-
-pub words_alike : (a b : List ℕ) → bytes_eq (take 8 a) (take 8 b) ≡ true → bytes_eq a b ≡ bytes_eq (drop 8 a) (drop 8 b)
-words_alike a b h =
-    same_bool (bytes_eq a b) (bytes_eq (drop 8 a) (drop 8 b))
-    (λ e. ap (λ (x : List ℕ). bytes_eq (drop 8 x) (drop 8 b)) (bytes_same a b e) ∙ bytes_self (drop 8 b))
-    (λ e.
-    (let same : a ≡ b = sym (take-append-drop 8 a) ∙ ap (λ (x : List ℕ). x ++ drop 8 a) (bytes_same (take 8 a) (take 8 b) h) ∙ ap (λ (x : List ℕ). take 8 b ++ x) (bytes_same (drop 8 a) (drop 8 b) e) ∙ take-append-drop 8 b in
-    ap (λ (x : List ℕ). bytes_eq x b) same ∙ bytes_self b))

@@ -1,5 +1,5 @@
 -- Where chains of pointers end.
-use Rattle.std.specs.Prelude.{◌≡◌, ◌≢◌, ℕ, ◌≤◌, List, get_or}
+use Rattle.std.specs.Prelude.{◌≢◌, ℕ, ◌≤◌, List, get_or}
 use Rattle.dns_names.specs.Name.{Labels}
 use Rattle.dns_wire.specs.NameAt.{NameAt}
 

@@ -1,7 +1,6 @@
 //! The targets that pointers can name: where a suffix was written before (RFC 1035 section 4.1.4).
 ghost use Rattle.std.specs.Prelude.{◌≡◌, ◌<◌, ◌≤◌, ℕ, List, [], ◌∷◌, ◌++◌, length, get_or, IfOk, IfSome};
 ghost use Rattle.std.specs.Prelude.{MatchOption, None, OnErr, OnOk, Some};
-ghost use Rattle.std.specs.Str.{bytes_eq};
 ghost use Rattle.dns_names.specs.Name.{labels_of, names_eq};
 ghost use Rattle.dns_names.specs.Plain.{IsPlain};
 ghost use Rattle.dns_wire.specs.Compress.{Place, new_places};
@@ -11,6 +10,7 @@ ghost use Rattle.dns_wire.specs.Puts.{noted};
 use arrayvec::ArrayVec;
 use byteorder::{ByteOrder, LittleEndian};
 use dns_memory::Heap;
+use dns_names::same_octets;
 use std::alloc::AllocError;
 use std::marker::Model;
 
@@ -31,28 +31,6 @@ const FACTOR: u64 = 11400714819323198485;
 
 /// What a number is divided by, so that its ten highest bits are left.
 const HIGHEST: u64 = 18014398509481984;
-
-/// Whether octets are the same: most names are short, so that few words of eight octets are compared.
-#[inline(always)]
-fn same(octets: &[u8], others: &[u8]) -> bool
-    ensures { result ≡ bytes_eq octets.now others.now }
-{
-    if octets.len() != others.len() {
-        return false;
-    }
-    let (mut rest, mut other) = (octets, others);
-    'words: while let Some((word, behind)) = rest.split_first_chunk::<8>() {
-        let Some((its, after)) = other.split_first_chunk::<8>() else {
-            return false;
-        };
-        if *word != *its {
-            return false;
-        }
-        rest = behind;
-        other = after;
-    }
-    rest == other
-}
 
 /// Where a suffix of an earlier name occurs: the plain form of the suffix is lent.
 #[derive(Drop)]
@@ -90,7 +68,7 @@ impl<'a> Target<'a> {
         requires { IsPlain suffix.now }
         ensures { result ≡ names_eq self.now.suffix (labels_of suffix.now) }
     {
-        same(self.suffix, suffix)
+        same_octets(self.suffix, suffix)
     }
 
     /// Where it occurs.
@@ -118,7 +96,7 @@ fn place_of(places: &[Target<'_>], suffix: &[u8]) -> Option<usize>
 }
 
 /// Where a suffix occurs in a name that is written in full after the header.
-fn place_within(name: &[u8], suffix: &[u8]) -> Option<usize>
+pub(crate) fn place_within(name: &[u8], suffix: &[u8]) -> Option<usize>
     requires name { IsPlain name.now }
     requires suffix { IsPlain suffix.now }
     ensures position { result ≡ offset_at (new_places [] 12 (labels_of name.now)) (labels_of suffix.now) }
@@ -132,7 +110,7 @@ fn place_within(name: &[u8], suffix: &[u8]) -> Option<usize>
         at += size;
         rest = behind;
     }
-    if rest.len() > 1 && rest == suffix {
+    if rest.len() > 1 && same_octets(rest, suffix) {
         return Some(at);
     }
     None

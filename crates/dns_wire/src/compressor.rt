@@ -136,7 +136,7 @@ impl<'a> Compressor<'a> {
 }
 
 /// A pointer to an offset (RFC 1035 section 4.1.4).
-fn pointer(offset: usize) -> [u8; 2]
+pub(crate) fn pointer(offset: usize) -> [u8; 2]
     requires { offset < 16384 }
     ensures { result ≡ stated_pointer offset }
 {

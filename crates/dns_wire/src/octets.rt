@@ -1,4 +1,4 @@
-//! The octets of a message while it is written: the first ones of a buffer, which has zeros after them, so
+//! The octets of a message while it is written: the first ones of a buffer, which has others after them, so
 //! that most are written by a copy and no call.
 ghost use Rattle.std.specs.Prelude.{◌≡◌, [], ◌++◌, ◌+◌, ◌-◌, ◌≤◌, length, take, drop, IfOk, OnOk};
 ghost use Rattle.std.specs.Int.{w16, to_be_bytes as be_octets};
@@ -7,6 +7,10 @@ use byteorder::{BigEndian, ByteOrder};
 use dns_memory::Heap;
 use std::alloc::AllocError;
 use std::marker::Model;
+use std::mem;
+
+/// A datagram has at most so many octets (RFC 1035 section 4.2.1).
+pub(crate) const MOST: usize = 512;
 
 /// Octets that are written one after the other.
 #[derive(Drop)]
@@ -52,6 +56,16 @@ fn grow(buffer: &mut Vec<u8, Heap>, len: usize, more: usize) -> Result<(), Alloc
     Ok(())
 }
 
+/// Makes a buffer longer. Where it lacks memory, it gets that of a datagram, so that it serves again.
+#[inline(never)]
+fn widen(buffer: &mut Vec<u8, Heap>, room: usize) -> Result<(), AllocError> {
+    if buffer.capacity() < room {
+        buffer.clear();
+        buffer.reserve(room.max(MOST))?;
+    }
+    buffer.resize(room, 0)
+}
+
 /// Writes a number into the two octets before an offset.
 #[inline(always)]
 fn set_two(octets: &mut [u8], behind: usize, number: u16)
@@ -72,6 +86,22 @@ impl Octets {
             buffer: vec![in alloc; 0; room]?,
             len: 0,
         })
+    }
+
+    /// None, with room for so many, in the memory of spare octets, of which none is left.
+    #[inline(always)]
+    pub(crate) fn over(
+        alloc: Heap,
+        spare: &mut Vec<u8, Heap>,
+        room: usize,
+    ) -> Result<Octets, AllocError>
+        ensures { IfOk result (λ octets. octets.items ≡ []) }
+    {
+        let mut buffer = mem::replace(spare, Vec::new(alloc));
+        if buffer.len() < room {
+            widen(&mut buffer, room)?;
+        }
+        Ok(Octets { buffer, len: 0 })
     }
 
     /// How many there are.

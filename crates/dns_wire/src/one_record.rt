@@ -1,10 +1,10 @@
 //! Replies whose answer is one record under the name of their question, written in one piece: most replies
 //! are such.
-ghost use Rattle.std.specs.Prelude.{◌≡◌, ◌≤◌, ◌<◌, ◌^◌, length, IfOk, IfSome};
+ghost use Rattle.std.specs.Prelude.{◌≡◌, ◌≤◌, length, IfOk, IfSome};
 ghost use Rattle.dns_wire.specs.OneRecord.{answer_header, one_answer, record_head};
 ghost use Rattle.dns_wire.specs.Text.{text};
 
-use crate::octets::Octets;
+use crate::octets::{MOST, Octets};
 use crate::record_put::may_hold_name;
 use crate::{EchoedQuestion, Writer};
 use byteorder::{BigEndian, ByteOrder};
@@ -13,11 +13,8 @@ use dns_records::Record;
 use dns_records::types::CLASS_IN;
 use std::alloc::AllocError;
 
-/// A datagram has at most so many octets (RFC 1035 section 4.2.1).
-const MOST: usize = 512;
-
 /// How many octets the header has, and those of a record before its data, if a pointer is its owner.
-const FRONT: usize = 12;
+pub(crate) const FRONT: usize = 12;
 
 /// The header of an authoritative answer with one question and one record (RFC 1035 section 4.1.1).
 #[inline(always)]
@@ -46,10 +43,12 @@ fn record_head(rtype: u16, ttl: u32, size: u16) -> [u8; FRONT]
 impl Writer {
     /// The one compressed text of the authoritative reply to a question that is answered by one record under
     /// the question's name, if it is written in one piece: that needs a name other than the root, data
-    /// without a name to compress, and room in 512 octets.
+    /// without a name to compress, and room in 512 octets. It takes the memory of the spare octets, if they
+    /// have room, and leaves none of them.
     #[inline(always)]
     pub fn write_one(
         alloc: Heap,
+        spare: &mut Vec<u8, Heap>,
         id: u16,
         rd: bool,
         question: &EchoedQuestion<'_>,
@@ -64,7 +63,7 @@ impl Writer {
         if size > MOST || question.name.as_wire().len() < 2 || may_hold_name(one.rtype()) {
             return Ok(None);
         }
-        let mut octets = Octets::with_room(alloc, size)?;
+        let mut octets = Octets::over(alloc, spare, size)?;
         octets.put(&answer_header(id, rd))?;
         octets.put(asked)?;
         octets.put(&record_head(one.rtype(), one.ttl(), rdata.len() as u16))?;

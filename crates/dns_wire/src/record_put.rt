@@ -22,7 +22,7 @@ use dns_records::types::{A, CLASS_IN, CNAME, NS, PTR, SOA};
 use dns_records::{Field, count_within, form};
 
 /// The name at the front of plain octets, and the octets after it.
-fn split_name(octets: &[u8]) -> (&[u8], &[u8])
+pub(crate) fn split_name(octets: &[u8]) -> (&[u8], &[u8])
     requires { BeginsWithName octets.now }
     ensures plain { IsPlain result.0.now }
     ensures labels { labels_of result.0.now ≡ labels_of octets.now }

@@ -1,8 +1,12 @@
-use Rattle.std.proofs.Common.{sym, ap, ◌∙◌}
+use Rattle.std.proofs.Common.{List, ℕ, ◌≤◌, length, sym, ap, subst, ◌∙◌}
 use Rattle.std.proofs.lemmas.Result.{IfOk-weaker}
 use Rattle.dns_wire.specs.Reply.{stated}
 use Rattle.dns_answer.specs.Answer.{fitted}
+use Rattle.dns_answer.proofs.OneReply.{fits}
 use Rattle.dns_answer.proofs.question.reply_of_short.Goals as goal
+
+pub returns-in-Some : goal.returns-in-Some
+returns-in-Some g c t fs are holds = ?
 
 pub returns-in_default : goal.returns-in_default
 returns-in_default g c = IfOk-weaker c.fit.result _ _ (λ out e t fs are holds.

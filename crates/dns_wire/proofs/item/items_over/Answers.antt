@@ -1,5 +1,4 @@
 use Rattle.std.proofs.Common.{ℕ, ◌-◌, ◌+◌, arith}
-use Rattle.dns_wire.specs.declared.ReadError.{ReadError}
 use Rattle.dns_wire.specs.Refusals.{ResourceRecordRefused, TimesRefused}
 use Rattle.dns_wire.specs.Walk.{SomeItem, Times}
 use Rattle.dns_wire.proofs.Causes.{times_here, times_behind}

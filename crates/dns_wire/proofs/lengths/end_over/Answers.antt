@@ -1,8 +1,8 @@
-use Rattle.std.proofs.Common.{◌≤◌, ◌+◌, ◌-◌, ◌++◌, ℕ, refl, arith}
+use Rattle.std.proofs.Common.{◌-◌, ◌++◌, ℕ, refl, arith}
 use Rattle.std.proofs.lemmas.Result.{err_from_is_err_and}
-use Rattle.dns_names.specs.Name.{Labels, wire}
+use Rattle.dns_names.specs.Name.{Labels}
 use Rattle.dns_names.specs.Runs.{run_up}
-use Rattle.dns_wire.specs.NameAt.{NameAt, ends, FullNameAt}
+use Rattle.dns_wire.specs.NameAt.{ends, FullNameAt}
 use Rattle.dns_wire.specs.Refusals.{NoName, NameRefused, here, behind}
 use Rattle.dns_wire.proofs.PartsRead.{name_up}
 use Rattle.dns_wire.proofs.Ends.{name_inside}

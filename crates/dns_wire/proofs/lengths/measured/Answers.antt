@@ -1,4 +1,4 @@
-use Rattle.std.proofs.Common.{◌≡◌, ◌≢◌, ◌≤◌, ◌-◌, ◌+◌, length, get_or, refl, subst, arith}
+use Rattle.std.proofs.Common.{◌≡◌, ◌≤◌, ◌-◌, ◌+◌, length, get_or, refl, arith}
 use Rattle.std.proofs.lemmas.Result.{err_from_is_err_and}
 use Rattle.dns_names.specs.Name.{wire}
 use Rattle.dns_names.specs.Runs.{run_up}
@@ -7,7 +7,7 @@ use Rattle.dns_wire.specs.Lengths.{IsMeasured}
 use Rattle.dns_wire.specs.Refusals.{here, behind}
 use Rattle.dns_wire.specs.declared.ReadError.TheVariants.{NameTooLong}
 use Rattle.dns_wire.proofs.Names.{leaves_next}
-use Rattle.dns_wire.proofs.Measures.{reaches_next, reaches_root, reaches_known, too_long, length_once, room_behind}
+use Rattle.dns_wire.proofs.Measures.{reaches_next, reaches_root, too_long, length_once, room_behind}
 use Rattle.dns_wire.proofs.lengths.measured.Goals as goal
 use Rattle.dns_wire.proofs.lengths.measured.Goals.{Then-known-gt0, In-Root, In-Pointer}
 

@@ -1,8 +1,8 @@
 use Rattle.std.proofs.lemmas.List.{length-set}
-use Rattle.std.proofs.Common.{◌≡◌, ◌≤◌, ◌<◌, ◌%◌, ℕ, List, length, sym, subst, arith}
+use Rattle.std.proofs.Common.{◌≤◌, ◌<◌, ◌%◌, ℕ, List, length, sym, subst, arith}
 use Rattle.dns_wire.specs.Pointers.{LeadsBack, AreEnds}
 use Rattle.dns_wire.proofs.Measures.{kept}
-use Rattle.dns_wire.proofs.Chains.{Onward, onward, leads_behind}
+use Rattle.dns_wire.proofs.Chains.{onward, leads_behind}
 use Rattle.dns_wire.proofs.pointers.keep_end.Goals as goal
 use Rattle.dns_wire.proofs.pointers.keep_end.Goals.{then-run-ends, else-run-ends}
 

@@ -1,6 +1,6 @@
-use Rattle.std.proofs.Common.{◌≡◌, ◌≢◌, ◌≤◌, ◌<◌, ◌%◌, get_or, subst, arith}
+use Rattle.std.proofs.Common.{◌≡◌, ◌≤◌, ◌<◌, ◌%◌, get_or, arith}
 use Rattle.dns_wire.specs.Pointers.{LeadsBack}
-use Rattle.dns_wire.proofs.Chains.{Onward, onward, leads_here, leads_onward, leads_join}
+use Rattle.dns_wire.proofs.Chains.{onward, leads_onward, leads_join}
 use Rattle.dns_wire.proofs.pointers.pointers_end.Goals as goal
 
 pub pointers-smaller : goal.pointers-smaller

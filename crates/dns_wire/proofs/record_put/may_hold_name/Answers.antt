@@ -1,6 +1,6 @@
-use Rattle.std.proofs.Common.{◌≡◌, sym, ap, ◌∙◌}
+use Rattle.std.proofs.Common.{sym, ap, ◌∙◌}
 use Rattle.dns_records.specs.Types.{form}
-use Rattle.dns_wire.proofs.FieldsPut.{formless_rdata, nameless_rdata}
+use Rattle.dns_wire.proofs.FieldsPut.{nameless_rdata}
 use Rattle.dns_wire.proofs.record_put.may_hold_name.Goals as goal
 
 pub returns-in-Some : goal.returns-in-Some

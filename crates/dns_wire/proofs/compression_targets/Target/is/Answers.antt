@@ -6,5 +6,5 @@ use Rattle.dns_wire.proofs.compression_targets.Target.is.Goals as goal
 
 pub returns : goal.returns
 returns c =
-    c.same.ensures ∙ plain_eq c.self.inside.suffix.now c.args.suffix.now c.self.invariant.0 c.requires
+    c.same_octets.ensures ∙ plain_eq c.self.inside.suffix.now c.args.suffix.now c.self.invariant.0 c.requires
     ∙ ap (λ (p : Place). names_eq p.suffix (labels_of c.args.suffix.now)) c.self.view_is

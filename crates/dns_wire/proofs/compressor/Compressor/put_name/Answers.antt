@@ -1,4 +1,4 @@
-use Rattle.std.proofs.Common.{◌≡◌, ◌+◌, ℕ, length, refl, sym}
+use Rattle.std.proofs.Common.{◌+◌, length, refl}
 use Rattle.std.proofs.lemmas.Result.{IfErr-weaker}
 use Rattle.dns_names.specs.Name.{labels_of}
 use Rattle.dns_wire.specs.Compress.{compressed_name}

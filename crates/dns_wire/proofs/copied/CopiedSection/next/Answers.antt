@@ -1,10 +1,9 @@
-use Rattle.std.proofs.Common.{◌≡◌, ◌≤◌, ◌+◌, ◌-◌, ◌∷◌, [], ℕ, List, length, sym, ap, subst, ◌∙◌, arith}
+use Rattle.std.proofs.Common.{◌≡◌, ◌≤◌, ◌+◌, ◌-◌, ◌∷◌, ℕ, List, length, sym, ap, subst, ◌∙◌, arith}
 use Rattle.std.proofs.lemmas.List.{take_at}
-use Rattle.dns_wire.specs.Copied.{AreCopiesLeft, record_copied}
+use Rattle.dns_wire.specs.Copied.{AreCopiesLeft}
 use Rattle.dns_wire.specs.Message.{ResourceRecord}
-use Rattle.dns_wire.specs.Pointers.{AreEnds}
 use Rattle.dns_wire.specs.Viewed.{AreResourceRecordsLeft, item_shown, items_left}
-use Rattle.dns_wire.proofs.ResourceRecordsShown.{left_is, none_left, next_item, NextItem, owner_place, next_end, NextEnd, item_is_shown, shown_parts}
+use Rattle.dns_wire.proofs.ResourceRecordsShown.{left_is, none_left, next_item, owner_place, next_end, item_is_shown, shown_parts}
 use Rattle.dns_wire.proofs.copied.CopiedSection.next.Goals as goal
 
 pub returns-then-self-eq0-clause-none : goal.returns-then-self-eq0-clause-none

@@ -3,8 +3,7 @@ use Rattle.std.proofs.lemmas.List.{length-append}
 use Rattle.dns_names.specs.Name.{wire}
 use Rattle.dns_wire.specs.Compress.{Place, compressed_rdata}
 use Rattle.dns_wire.specs.Puts.{plain_octets}
-use Rattle.dns_wire.specs.OneRecord.{answer_header, one_answer, record_head}
-use Rattle.dns_wire.specs.Text.{text}
+use Rattle.dns_wire.specs.OneRecord.{answer_header, record_head}
 use Rattle.dns_wire.proofs.OneRecord.{one_text}
 use Rattle.dns_wire.proofs.writer.Writer.write_one.Goals as goal
 
