@@ -51,11 +51,12 @@ impl<I: ZoneIndex, S: ZoneStore> Primary<I, S> {
             }
             Request::Query(query) => {
                 let header = header_octets(&query);
+                let mut octets = Vec::new(alloc);
                 Effects::reply(
                     alloc,
                     to,
                     header,
-                    reply(alloc, &self.zones, &query, transport),
+                    reply(alloc, &mut octets, &self.zones, &query, transport),
                 )
             }
             Request::Update(request) => {
