@@ -13,8 +13,8 @@ counted records = to_be_bytes w32 (length records) ++ flat_map plain records
 abbrev pub entry : Change → List ℕ
 entry c = plain c.old_soa ++ plain c.new_soa ++ counted c.removed ++ counted c.added
 
--- A change of valid records in order, of which the two SOAs alone are SOAs and none goes and comes, and so few
--- on each side that their count has 32 bits.
+-- A change of valid records in order, of which the two SOAs alone are SOAs and none goes and comes, and so
+-- few on each side that their count has 32 bits.
 pub record HasEntry (c : Change) : Type 0 where
   pub old_soa : IsRecord c.old_soa
   pub new_soa : IsRecord c.new_soa

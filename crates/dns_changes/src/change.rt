@@ -63,8 +63,8 @@ impl Model for Change {
 }
 
 impl Change {
-    /// The change of these records, of which the two SOAs alone are SOAs and none goes and comes. Each list is
-    /// in order, and so short that its length has 32 bits.
+    /// The change of these records, of which the two SOAs alone are SOAs and none goes and comes. Each list
+    /// is in order, and so short that its length has 32 bits.
     pub fn new(
         old_soa: Record,
         removed: Vec<Record, Heap>,

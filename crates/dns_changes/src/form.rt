@@ -1,4 +1,5 @@
-//! The form of a change: which of its records are SOAs, the order of the others, and that none goes and comes.
+//! The form of a change: which of its records are SOAs, the order of the others, and that none goes and
+//! comes.
 ghost use Rattle.std.specs.Prelude.{◌≡◌, true};
 ghost use Rattle.std.specs.List.{list_any};
 ghost use Rattle.dns_zone.specs.Records.{contains, is_ordered};

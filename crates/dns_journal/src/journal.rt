@@ -84,7 +84,7 @@ impl<D: Sectors> Journal<D> {
     ghost use Rattle.dns_journal.specs.State.{JournalLeavesOnly, HasJournalFailed};
     ghost use Rattle.dns_journal.specs.State.{BeginsAt, is_closed};
     ghost use Rattle.dns_journal.specs.State.{device_of, free_sectors};
-    ghost use Rattle.dns_journal.specs.State.{newest_number_of, opened_of, IsIdle};
+    ghost use Rattle.dns_journal.specs.State.{newest_number_of, opened_of, StagesNothing};
     ghost use Rattle.dns_journal.specs.Bank.{snapshot_room_of, journal_room_of, StayRooms};
 
     /// A journal on a device that was opened by this root, with nothing staged. It makes no device operation.
@@ -100,7 +100,7 @@ impl<D: Sectors> Journal<D> {
         ensures opened { opened_of result ≡ root.open_count }
         ensures device { device_of result ≡ device }
         ensures open { is_closed result ≡ false }
-        ensures idle { IsIdle result }
+        ensures idle { StagesNothing result }
         ensures left { free_sectors result ≡ next.until - next.at }
         ensures snapshot_room { snapshot_room_of result ≡ root.snapshot_room }
         ensures journal_room { journal_room_of result ≡ root.journal_room }
@@ -152,7 +152,7 @@ impl<D: Sectors> Journal<D> {
         ensures left { OnErr result (free_sectors self.new ≡ free_sectors self.old) }
         ensures newest { OnErr result (newest_number_of self.new ≡ newest_number_of self.old) }
         ensures raised { OnOk result (newest_number_of self.new ≡ newest_number_of self.old + 1) }
-        ensures idle { OnErr result (IsIdle self.old → IsIdle self.new) }
+        ensures idle { OnErr result (StagesNothing self.old → StagesNothing self.new) }
         ensures rooms { StayRooms self.old self.new }
         ensures full { result ≡ Err StageError.Full ↔ ((is_closed self.old ≡ false)
             × (free_sectors self.old < sectors_of_entry (length (entry prepared.now)))) }
@@ -191,9 +191,9 @@ impl<D: Sectors> Journal<D> {
         // Nothing staged is no device operation.
         ensures idle { (shape : Sizes) (k : Stored) → Keeps shape self.old k []
             → (device_of self.new ≡ device_of self.old) × IsOk result }
-        ensures nothing { IsIdle self.old → is_closed self.old ≡ false
+        ensures nothing { StagesNothing self.old → is_closed self.old ≡ false
             → (device_of self.new ≡ device_of self.old) × IsOk result }
-        ensures cleared { OnOk result (IsIdle self.new × (is_closed self.new ≡ false)) }
+        ensures cleared { OnOk result (StagesNothing self.new × (is_closed self.new ≡ false)) }
         ensures rooms { StayRooms self.old self.new }
         ensures left { free_sectors self.new ≡ free_sectors self.old }
         ensures newest { newest_number_of self.new ≡ newest_number_of self.old }

@@ -65,7 +65,7 @@ impl<D: Sectors> Journal<D> {
     ghost use Rattle.dns_journal.specs.State.{Keeps, JournalLeavesOnly, HasJournalFailed, is_closed};
     ghost use Rattle.dns_journal.specs.State.{device_of};
     ghost use Rattle.dns_journal.specs.State.{free_sectors, newest_number_of};
-    ghost use Rattle.dns_journal.specs.State.{opened_of, IsIdle};
+    ghost use Rattle.dns_journal.specs.State.{opened_of, StagesNothing};
     ghost use Rattle.dns_journal.specs.Bank.{IsTurned, LeavesEither, snapshot_room_of, journal_room_of};
     ghost use Rattle.dns_journal.specs.Bank.{StayRooms};
 
@@ -93,7 +93,7 @@ impl<D: Sectors> Journal<D> {
         ensures left { OnErr result (free_sectors self.new ≡ free_sectors self.old) }
         ensures fits { OnOk result
             (free_sectors self.new ≡ journal_room_of self.old - sum_by sectors_for changes.now) }
-        ensures idle { OnOk result (IsIdle self.old → IsIdle self.new) }
+        ensures idle { OnOk result (StagesNothing self.old → StagesNothing self.new) }
         ensures open { OnOk result (is_closed self.new ≡ false) }
         ensures rooms { StayRooms self.old self.new }
         ensures newest { newest_number_of self.new ≡ newest_number_of self.old }

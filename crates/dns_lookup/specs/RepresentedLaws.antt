@@ -74,7 +74,8 @@ no_alias : (f : lookup.Found) (kind : Kind) (at : Labels) (seen : List Labels)
     → kind ≡ kinds.Answers
     → next_name f seen ≡ None
 no_alias f kind at seen is answers =
-    ap (λ (o : Outcome). next_name (record f { outcome = o }) seen) (is ∙ ap (λ (k : Kind). outcome_of k at) answers)
+    ap (λ (o : Outcome). next_name (record f { outcome = o }) seen)
+    (is ∙ ap (λ (k : Kind). outcome_of k at) answers)
 
 abbrev first_in : Labels → ℕ → Zone → lookup.Found
 first_in name t z = record { zone = z; name = name; outcome = outcome z name t }

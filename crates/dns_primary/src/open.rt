@@ -168,7 +168,8 @@ impl<D: Sectors + Drop, I: ZoneIndex> Primary<I, KeptStore<D, I>> {
         // Where it had other settings, it is that machine, which was then given these.
         ensures configured { RecoversAnew D.Sectors apexes.now settings.entry.items devices.entry.items
             result }
-        // Whichever of the devices are honest, it is a machine, and each zone whose device is honest recovered.
+        // Whichever of the devices are honest, it is a machine, and each zone whose device is honest
+        // recovered.
         ensures anyway { HoldsAnyway D.Sectors apexes.now settings.entry.items devices.entry.items result }
         // A crash at any moment of it leaves each honest device as one that a crash might have left before.
         ensures any_moment { LeavesRecoverable D.Sectors apexes.now settings.entry.items devices.entry.items

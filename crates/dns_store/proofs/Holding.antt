@@ -10,7 +10,7 @@ use Rattle.dns_changes.specs.Change.{Change, IsChange}
 use Rattle.dns_changes.specs.Entry.{entry}
 use Rattle.dns_sectors.specs.declared.device.Sectors.{Ghosts}
 use Rattle.dns_layout.specs.Sector.{entry_sectors}
-use Rattle.dns_journal.specs.State.{IsIdle, is_closed, free_sectors, newest_number_of}
+use Rattle.dns_journal.specs.State.{StagesNothing, is_closed, free_sectors, newest_number_of}
 use Rattle.dns_journal.specs.Bank.{StayRooms}
 use Rattle.dns_journal.specs.declared.journal.Journal.{Journal}
 use Rattle.dns_store.specs.Versions.{Versions, Kept, IsNextVersion, newest_after, newest_of, version_at, staged_with, made_durable, closed_by_failure, closed_between}
@@ -62,10 +62,10 @@ sum_more k after c le leads =
     ∙ ap (λ (n : ℕ). sum_by (λ (m : ℕ). m) (drop k.base es) + n) one
 
 -- With nothing staged nothing is to be written, or the device failed before.
-pub flush_idle : {D : Type 0} {g : Ghosts D} (old : Journal D g) (base : Zone) (changes : List Change) (k : Kept) (Holds : Type 0) → HoldsInMemory old base changes k → (IsIdle old → is_closed old ≡ false → Holds) → (is_closed old ≡ true → Holds) → k.staged ≡ [] → Holds
+pub flush_idle : {D : Type 0} {g : Ghosts D} (old : Journal D g) (base : Zone) (changes : List Change) (k : Kept) (Holds : Type 0) → HoldsInMemory old base changes k → (StagesNothing old → is_closed old ≡ false → Holds) → (is_closed old ≡ true → Holds) → k.staged ≡ [] → Holds
 flush_idle {D} {g} old base changes k Holds held idle shut none = either k.closed held.closed_is held.idle
   where
-    either : (closed : Bool) → is_closed old ≡ closed → (closed ≡ false → k.staged ≡ [] → IsIdle old) → Holds
+    either : (closed : Bool) → is_closed old ≡ closed → (closed ≡ false → k.staged ≡ [] → StagesNothing old) → Holds
     either false is rest = idle (rest refl none) is
     either true is rest = shut is
 
@@ -99,7 +99,7 @@ module _ {D : Type 0} {g : Ghosts D} (old new : Journal D g) (base : Zone) (chan
         fit = subst (λ (vs : Versions). AllFit k.shape.snapshot vs) (sym along) (fit_append k.shape.snapshot (drop k.base (k.shown ++ k.staged)) after held.fit next.fits);
       }
 
-  pub memory_still : is_closed new ≡ is_closed old → newest_number_of new ≡ newest_number_of old → free_sectors new ≡ free_sectors old → StayRooms old new → (k.closed ≡ false → k.staged ≡ [] → IsIdle new) → HoldsInMemory new base changes k
+  pub memory_still : is_closed new ≡ is_closed old → newest_number_of new ≡ newest_number_of old → free_sectors new ≡ free_sectors old → StayRooms old new → (k.closed ≡ false → k.staged ≡ [] → StagesNothing new) → HoldsInMemory new base changes k
   memory_still closed number left rooms idle = record {
     closed_is = closed ∙ held.closed_is;
     number_is = number ∙ held.number_is;
@@ -147,7 +147,7 @@ module _ {D : Type 0} {g : Ghosts D} (old new : Journal D g) (base : Zone) (chan
     fit = held.fit;
   }
 
-  pub memory_flushed : is_closed new ≡ is_closed old → newest_number_of new ≡ newest_number_of old → free_sectors new ≡ free_sectors old → StayRooms old new → IsIdle new → HoldsInMemory new base changes (made_durable k)
+  pub memory_flushed : is_closed new ≡ is_closed old → newest_number_of new ≡ newest_number_of old → free_sectors new ≡ free_sectors old → StayRooms old new → StagesNothing new → HoldsInMemory new base changes (made_durable k)
   memory_flushed closed number left rooms idle =
       let le = held.so_far in
       let whole : (k.shown ++ k.staged) ++ [] ≡ k.shown ++ k.staged = append-nil (k.shown ++ k.staged) in

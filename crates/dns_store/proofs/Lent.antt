@@ -14,7 +14,7 @@ use Rattle.dns_sectors.proofs.Moments.{started}
 use Rattle.dns_layout.specs.Journal.{Entry}
 use Rattle.dns_layout.specs.Sector.{snapshot_length, snapshot_sectors, payload_in}
 use Rattle.dns_layout.specs.Store.{Sizes, Stored, OpensBy}
-use Rattle.dns_journal.specs.State.{Keeps, IsIdle, is_closed, device_of, free_sectors, newest_number_of}
+use Rattle.dns_journal.specs.State.{Keeps, StagesNothing, is_closed, device_of, free_sectors, newest_number_of}
 use Rattle.dns_journal.specs.Bank.{StayRooms, sectors_for, journal_room_of}
 use Rattle.dns_journal.proofs.Flush.{idle_of}
 use Rattle.dns_journal.specs.declared.journal.Journal.{Journal}
@@ -211,7 +211,7 @@ module _ {D : Type 0} {g : Ghosts D} (journal : Journal D g) (base : Zone) (chan
     }
 
     pub memory_moved : (new : Journal D g) (next_zone : Zone) (octets : List ℕ) → IsNextBase base next_zone (take (length changes - m) (drop k.base k.shown)) octets → is_closed journal ≡ false → is_closed new ≡ false → newest_number_of new ≡ newest_number_of journal
-        → free_sectors new ≡ journal_room_of journal - sum_by sectors_for (drop (length changes - m) changes) → StayRooms journal new → (IsIdle journal → IsIdle new) → HoldsInMemory new next_zone (drop (length changes - m) changes) (moved_to (length k.shown - m) k)
+        → free_sectors new ≡ journal_room_of journal - sum_by sectors_for (drop (length changes - m) changes) → StayRooms journal new → (StagesNothing journal → StagesNothing new) → HoldsInMemory new next_zone (drop (length changes - m) changes) (moved_to (length k.shown - m) k)
     memory_moved new next_zone octets found working opened number free rooms idle = record {
       closed_is = opened ∙ sym working ∙ held.closed_is;
       number_is = number ∙ held.number_is;

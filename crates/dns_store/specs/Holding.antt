@@ -4,7 +4,7 @@ use Rattle.std.specs.Prelude.{◌≡◌, ◌≤◌, ◌+◌, false, List, [], �
 use Rattle.dns_zone.specs.Zone.{Zone}
 use Rattle.dns_changes.specs.Change.{Change}
 use Rattle.dns_sectors.specs.declared.device.Sectors.{Ghosts}
-use Rattle.dns_journal.specs.State.{IsIdle, is_closed, device_of, free_sectors, newest_number_of}
+use Rattle.dns_journal.specs.State.{StagesNothing, is_closed, device_of, free_sectors, newest_number_of}
 use Rattle.dns_journal.specs.Bank.{journal_room_of, snapshot_room_of}
 use Rattle.dns_journal.specs.declared.journal.Journal.{Journal}
 use Rattle.dns_store.specs.Versions.{Kept, version_at}
@@ -24,7 +24,7 @@ pub record HoldsInMemory {D : Type 0} {g : Ghosts D} (journal : Journal D g) (ba
   pub left_is : free_sectors journal ≡ sectors_left k
   pub snapshot_room_is : snapshot_room_of journal ≡ k.shape.snapshot
   pub journal_room_is : journal_room_of journal ≡ k.shape.journal
-  pub idle : k.closed ≡ false → k.staged ≡ [] → IsIdle journal
+  pub idle : k.closed ≡ false → k.staged ≡ [] → StagesNothing journal
   pub so_far : k.base ≤ length k.shown
   pub base_is : base ≡ record { apex = k.shape.apex; records = version_at k k.base }
   pub base_fits : sectors_of_snapshot (version_at k k.base) ≤ k.shape.snapshot

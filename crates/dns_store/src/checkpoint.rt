@@ -6,7 +6,7 @@ ghost use Rattle.dns_names.specs.Name.{Labels};
 ghost use Rattle.dns_zone.specs.Records.{is_ordered};
 ghost use Rattle.dns_layout.specs.Sector.{snapshot_sectors as sectors_of_octets};
 ghost use Rattle.dns_journal.specs.State.{JournalLeavesOnly, device_of, is_closed, newest_number_of};
-ghost use Rattle.dns_journal.specs.State.{IsIdle, free_sectors};
+ghost use Rattle.dns_journal.specs.State.{StagesNothing, free_sectors};
 ghost use Rattle.dns_journal.specs.Reads.{HasRisen};
 ghost use Rattle.dns_journal.specs.Bank.{sectors_for, snapshot_room_of, journal_room_of, StayRooms};
 ghost use Rattle.dns_store.specs.Versions.{Kept, newest_after, OpensAsEither, moved_to};
@@ -165,7 +165,7 @@ fn turn_bank<D: Sectors>(
     ensures left { OnErr result (free_sectors journal.new ≡ free_sectors journal.old) }
     ensures free { OnOk result
         (free_sectors journal.new ≡ journal_room_of journal.old - sum_by sectors_for changes.now) }
-    ensures idle { OnOk result (IsIdle journal.old → IsIdle journal.new) }
+    ensures idle { OnOk result (StagesNothing journal.old → StagesNothing journal.new) }
     ensures open { OnOk result (is_closed journal.new ≡ false) }
     ensures closes { result ≡ Err TurnError.Device → is_closed journal.new ≡ true }
     ensures rooms { StayRooms journal.old journal.new }

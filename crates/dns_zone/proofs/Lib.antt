@@ -16,3 +16,5 @@ pub mod Uncut
 pub mod Parted
 pub mod Moved
 pub mod Replaced
+pub mod Halves
+pub mod SortKeys

@@ -1,27 +1,87 @@
 //! A list of records in any order, gathered into a set.
-ghost use Rattle.std.specs.Prelude.{◌≡◌, true, ◌==◌, ◌&&◌, length, Some, IfOk, OnOk, IsPermutation};
-ghost use Rattle.std.specs.List.{AllByRecursion, list_all};
+ghost use Rattle.std.specs.Prelude.{◌≡◌, true, ◌==◌, ◌&&◌, length, map, Some, IfOk, OnOk, IsPermutation};
+ghost use Rattle.std.specs.List.{All, AllByRecursion, list_all};
 ghost use Rattle.std.specs.List.Sorted.{IsSorted};
 ghost use Rattle.dns_names.specs.Name.{names_eq, under};
 ghost use Rattle.dns_records.specs.Record.{IsRecord, record_cmp};
 ghost use Rattle.dns_records.specs.Types.{type_soa};
 ghost use Rattle.dns_zone.specs.Records.{is_ordered, owns_type};
+ghost use Rattle.dns_zone.specs.SortKey.{HasSortKey, keyed_cmp};
 ghost use Rattle.dns_zone.specs.Zone.{has_twice, soas, zone_fault};
 
+use crate::key::sort_key;
 use crate::{ZoneError, ZoneIndex};
 use dns_memory::Heap;
 use dns_names::NameRef;
 use dns_records::Record;
 use dns_records::types::{NS, SOA};
 use std::alloc::AllocError;
+use std::cmp::Ordering;
 
-/// Puts the records in order. Those of equal owner, type and data are adjacent then.
-pub(crate) fn sort(records: &mut Vec<Record, Heap>) -> Result<(), AllocError>
+/// A record beside the sort key of its owner.
+#[derive(Drop)]
+pub(crate) struct Keyed {
+    pub(crate) key: u64,
+    pub(crate) value: Record,
+}
+
+impl Keyed {
+    /// The order of sort keys, and of records where these tie.
+    #[inline(always)]
+    fn compare(&self, other: &Keyed) -> Ordering
+        ensures { result ≡ keyed_cmp self.now other.now }
+    {
+        let keys = self.key.cmp(&other.key);
+        if keys.is_eq() {
+            return self.value.compare(&other.value);
+        }
+        keys
+    }
+}
+
+/// Puts the records in order. Those of equal owner, type and data are adjacent then. The sort keys decide
+/// most comparisons if most owners differ in the first octets of their labels next to the apex.
+pub(crate) fn sort(
+    alloc: Heap,
+    apex: &NameRef<'_>,
+    records: &mut Vec<Record, Heap>,
+) -> Result<(), AllocError>
     ensures same { IsPermutation records.old.items records.new.items }
     ensures sorted { OnOk result (IsSorted record_cmp records.new.items) }
 {
-    records.sort_by(|a, b| a.compare(b))?;
+    let mut keyed = with_keys(alloc, apex, records)?;
+    keyed.sort_unstable_by(|a, b| a.compare(b));
+    *records = without_keys(alloc, &keyed)?;
     Ok(())
+}
+
+/// The records beside their sort keys.
+fn with_keys(
+    alloc: Heap,
+    apex: &NameRef<'_>,
+    records: &[Record],
+) -> Result<Vec<Keyed, Heap>, AllocError>
+    ensures values { IfOk result (λ keyed. map (λ k. k.value) keyed.items ≡ records.now) }
+    ensures keys { IfOk result (λ keyed. All (HasSortKey apex.now) keyed.items) }
+{
+    let mut keyed = Vec::with_capacity(alloc, records.len())?;
+    for record in records {
+        let value = record.clone()?;
+        let key = sort_key(&value.owner().lend(), apex);
+        keyed.push(Keyed { key, value })?;
+    }
+    Ok(keyed)
+}
+
+/// The records alone.
+fn without_keys(alloc: Heap, keyed: &[Keyed]) -> Result<Vec<Record, Heap>, AllocError>
+    ensures { IfOk result (λ records. records.items ≡ map (λ k. k.value) keyed.now) }
+{
+    let mut records = Vec::with_capacity(alloc, keyed.len())?;
+    for each in keyed {
+        records.push(each.value.clone()?)?;
+    }
+    Ok(records)
 }
 
 /// Whether each record is above the one before it.

@@ -45,7 +45,7 @@ impl<I: ZoneIndex> Zone<I> {
             (λ e. (e ≡ ZoneError.OutOfMemory) ⊎ (zone_fault apex records.entry.items ≡ Some e)) }
     {
         let mut records = records;
-        sort(&mut records)?;
+        sort(alloc, &apex.lend(), &mut records)?;
         if !rises(&records) {
             return Err(refusal_of_doubles(&apex.lend(), &records));
         }

@@ -7,7 +7,7 @@ use Rattle.std.specs.declared.cmp.Ordering.TheVariants.{Less, Greater}
 use Rattle.std.proofs.lemmas.Option.{slice_get_within, slice_get-get_or}
 use Rattle.dns_zoneindex.specs.Entries.{Child}
 use Rattle.dns_zoneindex.specs.Children.{label_cmp, joined, AllChildren, AreChildren, AllFull, AreKeys, IsFirstKey, BeginAlike, AllBegin}
-use Rattle.dns_zoneindex.specs.Keys.{IsKey}
+use Rattle.dns_zone.specs.Keys.{IsKey}
 use Rattle.dns_zoneindex.specs.Slots.{is_before, IsLastUpTo, IsPlace}
 use Rattle.dns_zoneindex.proofs.Keys.{key_below, key_above}
 use Rattle.dns_zoneindex.proofs.Fronts.{order_after}

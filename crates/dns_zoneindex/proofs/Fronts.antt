@@ -15,8 +15,8 @@ use Rattle.dns_zone.specs.Sets.{true_or_false}
 use Rattle.dns_zoneindex.specs.Assoc.{child_of}
 use Rattle.dns_zoneindex.specs.Entries.{Child}
 use Rattle.dns_zoneindex.specs.Children.{label_cmp, joined, first_label, last_of, AllChildren, AreChildren, AllFull, AllBegin, BeginAsSecond, IsGroup, IsWhole, AreAlike, IsSharedPrefix}
-use Rattle.dns_zoneindex.specs.Keys.{IsKey}
-use Rattle.dns_zoneindex.proofs.Keys.{first_equal, one_more, key_equal}
+use Rattle.dns_zone.specs.Keys.{IsKey, first_equal}
+use Rattle.dns_zoneindex.proofs.Keys.{one_more, key_equal}
 use Rattle.dns_zoneindex.specs.Slots.{IsPlace, IsFoundAt, IsPlaceOfKey}
 use Rattle.dns_zoneindex.proofs.Sides.{all_front, all_back, all_map, children_back}
 use Rattle.dns_zoneindex.proofs.Slots.{child_at, joined_around, some_joined}

@@ -5,47 +5,13 @@ use Rattle.std.proofs.Math.Nat.{mul_comm, pow-suc, zero-mul}
 use Rattle.std.proofs.lemmas.Nat.{mul-add-lt}
 use Rattle.std.proofs.lemmas.Bool.{cases_order}
 use Rattle.std.specs.Cmp.{nat_cmp_is}
-use Rattle.std.specs.Int.{w32, w64, from_be_bytes}
+use Rattle.std.specs.Int.{w64, from_be_bytes}
 use Rattle.std.specs.Ordering.{nat_cmp, ordering_then, ordering_reverse}
 use Rattle.std.specs.declared.cmp.Ordering.TheVariants.{Less, Equal, Greater}
 use Rattle.dns_names.specs.Lower.{AreOctets}
 use Rattle.dns_zoneindex.specs.Children.{label_cmp}
-use Rattle.dns_zoneindex.specs.Keys.{leading, IsKey}
+use Rattle.dns_zone.specs.Keys.{leading, IsKey, behind, leading_below, first_equal, leading_order}
 use Rattle.dns_zoneindex.proofs.Sides.{label_total}
-
-behind : (x : ℕ) (xs : List ℕ) → AreOctets (x ∷ xs) → AreOctets xs
-behind x xs o = λ i. o (suc i)
-
-leading_none : (n : ℕ) → leading n [] ≡ 0
-leading_none zero = refl
-leading_none (suc n) = omega (arith, leading_none n, zero-mul (256 ^ n))
-
-leading_below : (n : ℕ) (xs : List ℕ) → AreOctets xs → leading n xs < 256 ^ n
-leading_below zero xs o = omega arith
-leading_below (suc n) [] o = omega (arith, leading_none n, leading_below n [] o, zero-mul (256 ^ n), pow-suc 256 n)
-leading_below (suc n) (x ∷ xs) o =
-    omega (arith, mul-add-lt x (256 ^ n) (leading n xs) 256 (o 0) (leading_below n xs (behind x xs o)), pow-suc 256 n)
-
-pub first_decides : (x y : ℕ) (xs ys : List ℕ) → x < y → label_cmp (x ∷ xs) (y ∷ ys) ≡ Less
-first_decides x y xs ys h = ap (λ o. ordering_then o (label_cmp xs ys)) (sym (nat_cmp_is x y Less h))
-
-pub first_equal : (x y : ℕ) (xs ys : List ℕ) → x ≡ y → label_cmp (x ∷ xs) (y ∷ ys) ≡ label_cmp xs ys
-first_equal x y xs ys h = ap (λ o. ordering_then o (label_cmp xs ys)) (sym (nat_cmp_is x y Equal h))
-
-leading_order : (n : ℕ) (a b : List ℕ) → AreOctets a → AreOctets b → leading n a < leading n b → label_cmp a b ≡ Less
-leading_order zero a b oa ob h = absurd (omega (arith, h))
-leading_order (suc n) [] [] oa ob h = absurd (omega (arith, h))
-leading_order (suc n) [] (y ∷ ys) oa ob h = refl
-leading_order (suc n) (x ∷ xs) [] oa ob h = absurd (omega (arith, h, leading_none n, zero-mul (256 ^ n)))
-leading_order (suc n) (x ∷ xs) (y ∷ ys) oa ob h =
-    elim (cases_order x y) [
-      | inl e ↦
-          first_equal x y xs ys e
-          ∙ leading_order n xs ys (behind x xs oa) (behind y ys ob) (omega (arith, h, ap (λ z. z * 256 ^ n) e))
-      | inr (inl l) ↦ first_decides x y xs ys l
-      | inr (inr g) ↦
-          absurd (omega (arith, h, mul-add-lt y (256 ^ n) (leading n ys) x g (leading_below n ys (behind y ys ob)), mul_comm x (256 ^ n)))
-    ]
 
 -- one octet and what is after it: neither is more than the other's
 no_more : (n x y : ℕ) (xs ys : List ℕ) → AreOctets xs → x < y → leading n xs + x * 256 ^ n < leading n ys + y * 256 ^ n
@@ -75,33 +41,6 @@ leading_equal (suc n) (x ∷ xs) (y ∷ ys) oa ob short e =
       | inr (inr g) ↦ absurd (omega (arith, e, no_more n y x ys xs (behind y ys ob) g))
     ]
 
--- the number that the octets are, one by one
-key_is : (label : List ℕ) → from_be_bytes w64
-    (get_or label 0 0 ∷ get_or label 1 0 ∷ get_or label 2 0 ∷ get_or label 3 0 ∷ get_or label 4 0 ∷ get_or label 5 0 ∷ get_or label 6 0
-    ∷ get_or label 7 0 ∷ []) ≡ leading 8 label
-key_is [] = refl
-key_is (a ∷ []) = omega arith
-key_is (a ∷ b ∷ []) = omega arith
-key_is (a ∷ b ∷ c ∷ []) = omega arith
-key_is (a ∷ b ∷ c ∷ d ∷ []) = omega arith
-key_is (a ∷ b ∷ c ∷ d ∷ e ∷ []) = omega arith
-key_is (a ∷ b ∷ c ∷ d ∷ e ∷ f ∷ []) = omega arith
-key_is (a ∷ b ∷ c ∷ d ∷ e ∷ f ∷ g ∷ []) = omega arith
-key_is (a ∷ b ∷ c ∷ d ∷ e ∷ f ∷ g ∷ h ∷ rest) = omega arith
-
-pub key_of_octets : (label : List ℕ) {a b c d e f g h : ℕ}
-    → a ≡ get_or label 0 0
-    → b ≡ get_or label 1 0
-    → c ≡ get_or label 2 0
-    → d ≡ get_or label 3 0
-    → e ≡ get_or label 4 0
-    → f ≡ get_or label 5 0
-    → g ≡ get_or label 6 0
-    → h ≡ get_or label 7 0
-    → from_be_bytes w64 (a ∷ b ∷ c ∷ d ∷ e ∷ f ∷ g ∷ h ∷ []) ≡ leading 8 label
-key_of_octets label p q r s t u v w =
-    (λ i. from_be_bytes w64 (p i ∷ q i ∷ r i ∷ s i ∷ t i ∷ u i ∷ v i ∷ w i ∷ [])) ∙ key_is label
-
 pub key_below : (k l : ℕ) (a b : List ℕ) → IsKey k a → IsKey l b → k < l → Less ≡ label_cmp a b
 key_below k l a b p q h = sym (leading_order 8 a b p.1 q.1 (omega (arith, h, p.0, q.0)))
 
@@ -110,32 +49,6 @@ key_above k l a b p q h = sym (label_total.antisymm a b ∙ ap ordering_reverse 
 
 pub key_equal : (k l : ℕ) (a b : List ℕ) → IsKey k a → IsKey l b → k ≡ l → length a ≤ 8 → nat_cmp (length a) (length b) ≡ label_cmp a b
 key_equal k l a b p q h short = sym (leading_equal 8 a b p.1 q.1 short (sym p.0 ∙ h ∙ q.0))
-
--- a label of four to eight octets by its first four and its last four
-halves : (label : List ℕ) → 4 ≤ length label → length label ≤ 8 → AreOctets label
-    → from_be_bytes w32 (take 4 label) * 4294967296 % 18446744073709551616
-    + from_be_bytes w32 (drop (length label - 4) label) * 2 ^ (8 * (8 - length label)) % 18446744073709551616 % 4294967296 ≡ leading 8 label
-halves [] l m o = absurd (omega (arith, l))
-halves (a ∷ []) l m o = absurd (omega (arith, l))
-halves (a ∷ b ∷ []) l m o = absurd (omega (arith, l))
-halves (a ∷ b ∷ c ∷ []) l m o = absurd (omega (arith, l))
-halves (a ∷ b ∷ c ∷ d ∷ []) l m o = omega (arith, o 0, o 1, o 2, o 3)
-halves (a ∷ b ∷ c ∷ d ∷ e ∷ []) l m o = omega (arith, o 0, o 1, o 2, o 3, o 4)
-halves (a ∷ b ∷ c ∷ d ∷ e ∷ f ∷ []) l m o = omega (arith, o 0, o 1, o 2, o 3, o 4, o 5)
-halves (a ∷ b ∷ c ∷ d ∷ e ∷ f ∷ g ∷ []) l m o = omega (arith, o 0, o 1, o 2, o 3, o 4, o 5, o 6)
-halves (a ∷ b ∷ c ∷ d ∷ e ∷ f ∷ g ∷ h ∷ []) l m o = omega (arith, o 0, o 1, o 2, o 3, o 4, o 5, o 6, o 7)
-halves (a ∷ b ∷ c ∷ d ∷ e ∷ f ∷ g ∷ h ∷ i ∷ rest) l m o = absurd (omega (arith, m))
-
-pub key_of_two : (label front back : List ℕ) (len f b : ℕ) → 4 ≤ len → len ≤ 8 → length label ≡ len → front ≡ take 4 label → back ≡ drop (len - 4) label
-    → AreOctets label
-    → f ≡ from_be_bytes w32 front
-    → b ≡ from_be_bytes w32 back
-    → f * 4294967296 % 18446744073709551616 + b * 2 ^ (8 * (8 - len)) % 18446744073709551616 % 4294967296 ≡ leading 8 label
-key_of_two label front back len f b l m n e g o p q =
-    let first : f ≡ from_be_bytes w32 (take 4 label) = p ∙ ap (from_be_bytes w32) e in
-    let last : b ≡ from_be_bytes w32 (drop (length label - 4) label) = q ∙ ap (from_be_bytes w32) (g ∙ ap (λ k. drop (k - 4) label) (sym n)) in
-    (λ i. first i * 4294967296 % 18446744073709551616 + last i * 2 ^ (8 * (8 - sym n i)) % 18446744073709551616 % 4294967296)
-    ∙ halves label (omega (arith, l, n)) (omega (arith, m, n)) o
 
 -- octets whose numbers are the same are the same
 leading_same : (n : ℕ) (a b : List ℕ) → AreOctets a → AreOctets b → n ≤ length a → n ≤ length b → leading n a ≡ leading n b → take n a ≡ take n b

@@ -17,7 +17,7 @@ use Rattle.dns_zone.specs.Sets.{true_or_false}
 use Rattle.dns_zoneindex.specs.Entries.{Child, flat}
 use Rattle.dns_zoneindex.specs.Children.{label_cmp, joined, AllChildren, AreChildren, AllFull, IsFirstKey}
 use Rattle.dns_zoneindex.specs.Assoc.{child_of, put_child, without_child}
-use Rattle.dns_zoneindex.specs.Keys.{IsKey, leading}
+use Rattle.dns_zone.specs.Keys.{IsKey, leading}
 use Rattle.dns_zoneindex.specs.Slots.{is_before, HasAlone, IsPlace}
 use Rattle.dns_zoneindex.proofs.Counts.{length-pushed}
 use Rattle.dns_zoneindex.proofs.Keys.{key_below, key_above, key_equal, ends_same}

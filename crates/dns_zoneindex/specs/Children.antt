@@ -7,7 +7,7 @@ use Rattle.std.specs.declared.cmp.Ordering.{Ordering}
 use Rattle.std.specs.declared.cmp.Ordering.TheVariants.{Less}
 use Rattle.dns_records.specs.Record.{Record}
 use Rattle.dns_zoneindex.specs.Entries.{PathRecord, Child, here, flat}
-use Rattle.dns_zoneindex.specs.Keys.{IsKey}
+use Rattle.dns_zone.specs.Keys.{IsKey}
 use Rattle.dns_zoneindex.specs.declared.node.Children.{Children}
 use Rattle.dns_zoneindex.specs.declared.node.Children.TheVariants.{Empty, One, Many}
 use Rattle.dns_zoneindex.specs.declared.node.Kind.{Kind}

@@ -28,9 +28,9 @@ IsBeyond slots position = length (flat (joined slots)) ≤ position
 
 -- The records are these; or the run of the children that starts at another index is the run of these, and the
 -- children weigh less.
-abbrev pub IsStep : List PathRecord → ℕ → Step → Type 0
-IsStep own position (found.Run run) = IsLent (path_records own) position run.now
-IsStep own position (found.Below children left) =
+abbrev pub LeadsToRun : List PathRecord → ℕ → Step → Type 0
+LeadsToRun own position (found.Run run) = IsLent (path_records own) position run.now
+LeadsToRun own position (found.Below children left) =
     (children_size (items children.now) ≤ weight own)
     × ((run : List Record) → IsLent (path_records (flat (items children.now))) left run
     → IsLent (path_records own) position run)

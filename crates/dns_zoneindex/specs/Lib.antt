@@ -3,7 +3,6 @@ pub mod Held
 pub mod Children
 pub mod Size
 pub mod Falls
-pub mod Keys
 pub mod Assoc
 pub mod Slots
 pub mod Setting

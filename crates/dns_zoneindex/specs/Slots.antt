@@ -8,7 +8,7 @@ use Rattle.dns_zoneindex.specs.Assoc.{child_of}
 use Rattle.dns_zoneindex.specs.Entries.{Child}
 use Rattle.dns_zoneindex.specs.Children.{label_cmp, joined}
 use Rattle.dns_zoneindex.specs.Children.{AllChildren, AreChildren, AllFull, AreKeys, AllBegin}
-use Rattle.dns_zoneindex.specs.Keys.{IsKey}
+use Rattle.dns_zone.specs.Keys.{IsKey}
 
 -- The label sorts before the first of the children.
 abbrev pub is_before : List ℕ → List Child → Bool

@@ -4,15 +4,16 @@ ghost use Rattle.std.specs.Option.{option_copied};
 ghost use Rattle.dns_zoneindex.specs.Children.{items, own_of, node_of, leaf_label, AreChildren};
 ghost use Rattle.dns_zoneindex.specs.Entries.{under_label, here_of, own_at};
 ghost use Rattle.dns_zoneindex.specs.Held.{held};
-ghost use Rattle.dns_zoneindex.specs.Keys.{IsKey};
+ghost use Rattle.dns_zone.specs.Keys.{IsKey};
 ghost use Rattle.std.specs.Str.{bytes_eq};
 
 use crate::count::sum;
-use crate::key::{end_alike, key_of};
+use crate::key::end_alike;
 use crate::node::{Branch, Children, Node};
 use crate::records::Records;
 use dns_memory::Heap;
 use dns_records::Record;
+use dns_zone::key_of;
 use smallvec::SmallVec;
 use std::alloc::AllocError;
 

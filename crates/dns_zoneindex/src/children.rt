@@ -6,15 +6,16 @@ ghost use Rattle.std.specs.List.{slice_get};
 ghost use Rattle.dns_zoneindex.specs.Children.{items, joined, last_of, AreChildren, AllFull, MatchEmpty};
 ghost use Rattle.dns_zoneindex.specs.Entries.{pushed, flat, own_at};
 ghost use Rattle.dns_zoneindex.specs.Setting.{keep, before, behind};
-ghost use Rattle.dns_zoneindex.specs.Keys.{IsKey};
+ghost use Rattle.dns_zone.specs.Keys.{IsKey};
 ghost use Rattle.dns_zoneindex.specs.Assoc.{child_of, put_child, without_child};
 
 use crate::group::{
     children_in, gathered, one, only_tied, place_alone, place_of, place_to_find, replaced, two,
 };
-use crate::key::{key_further, key_of};
+use crate::key::key_further;
 use crate::node::{Children, Group, Node, Slot};
 use dns_memory::Heap;
+use dns_zone::key_of;
 use std::alloc::AllocError;
 use std::cmp::Ordering;
 

@@ -11,10 +11,10 @@ ghost use Rattle.dns_zoneindex.specs.Owned.{path_records, are_owned};
 ghost use Rattle.dns_zoneindex.specs.Reach.{zone_of_entries, LeadsAbove};
 
 use crate::node::Node;
-use crate::path::{MOST_LABELS, name_from, split, starts_of};
+use crate::path::{MOST_LABELS, name_from, starts_of};
 use dns_names::NameRef;
 use dns_records::{Record, types};
-use dns_zone::{Match, of_type};
+use dns_zone::{Match, of_type, split};
 
 /// Whether a name owns NS, by the records that it owns.
 fn has_servers(owned: &[Record]) -> bool

@@ -8,7 +8,7 @@ ghost use Rattle.dns_zoneindex.specs.Children.{items, joined, label_cmp, AllChil
 ghost use Rattle.dns_zoneindex.specs.Children.{AreKeys, IsFirstKey, BeginAlike, AllBegin, BeginAsSecond};
 ghost use Rattle.dns_zoneindex.specs.Children.{AreAlike, IsSharedPrefix};
 ghost use Rattle.dns_zoneindex.specs.Entries.{flat};
-ghost use Rattle.dns_zoneindex.specs.Keys.{IsKey};
+ghost use Rattle.dns_zone.specs.Keys.{IsKey};
 ghost use Rattle.dns_zoneindex.specs.Slots.{is_before, HasAlone, IsFoundAt, IsLastUpTo};
 ghost use Rattle.dns_zoneindex.specs.Slots.{IsPlace, IsPlaceOfKey};
 

@@ -10,11 +10,11 @@ ghost use Rattle.dns_zoneindex.specs.Growth.{from_depth, BelongToName, HasLabel,
 use crate::count::sum;
 use crate::group::in_levels;
 use crate::node::{Children, Node, Slot};
-use crate::path::split;
 use crate::records::Records;
 use dns_memory::Heap;
 use dns_names::NameRef;
 use dns_records::Record;
+use dns_zone::split;
 use smallvec::SmallVec;
 use std::alloc::AllocError;
 use std::mem;

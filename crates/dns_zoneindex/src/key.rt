@@ -1,65 +1,12 @@
 //! Labels by their first octets as one number, which decides most comparisons of two labels in one step.
-ghost use Rattle.std.specs.Prelude.{◌≡◌, ◌<◌, ◌≤◌, ◌-◌, ℕ, List, true, take, drop, get_or, length};
+ghost use Rattle.std.specs.Prelude.{◌≡◌, ◌<◌, ℕ, true, take, drop, length};
 ghost use Rattle.dns_zoneindex.specs.Children.{label_cmp};
-ghost use Rattle.dns_zoneindex.specs.Keys.{IsKey, leading};
-ghost use Rattle.dns_names.specs.Lower.{AreOctets};
+ghost use Rattle.dns_zone.specs.Keys.{IsKey};
 ghost use Rattle.std.specs.Str.{bytes_eq};
 
 use crate::node::Node;
+use dns_zone::key_of;
 use std::cmp::Ordering;
-
-/// The octet at an index, or zero past the last one.
-fn octet_at(label: &[u8], position: usize) -> u8
-    ensures { result ≡ get_or label.now position 0 }
-{
-    match label.get(position) {
-        Some(octet) => *octet,
-        None => 0,
-    }
-}
-
-/// The first eight octets of a label as a number, the first of them highest, with zeros after the last one.
-#[inline(always)]
-pub(crate) fn key_of(label: &[u8]) -> u64
-    ensures { IsKey result label.now }
-{
-    if let Some(front) = label.first_chunk::<8>() {
-        return u64::from_be_bytes(*front);
-    }
-    let (Some(front), Some(back)) = (label.first_chunk::<4>(), label.last_chunk::<4>()) else {
-        return key_of_few(label);
-    };
-    key_of_halves(*front, *back, label.len())
-}
-
-/// The key of a label of four to eight octets by its first four and its last four, which may overlap.
-#[inline(always)]
-fn key_of_halves(front: [u8; 4], back: [u8; 4], len: usize) -> u64
-    requires few { len ≤ 8 }
-    requires more { 4 ≤ len }
-    ensures { (label : List ℕ) → length label ≡ len → front ≡ take 4 label → back ≡ drop (len - 4) label
-        → AreOctets label → result ≡ leading 8 label }
-{
-    let behind = u64::from(u32::from_be_bytes(back)) << (8 * (8 - len));
-    (u64::from(u32::from_be_bytes(front)) << 32) + behind % (1 << 32)
-}
-
-/// The key of a label of up to three octets.
-fn key_of_few(label: &[u8]) -> u64
-    requires { length label.now < 4 }
-    ensures { IsKey result label.now }
-{
-    u64::from_be_bytes([
-        octet_at(label, 0),
-        octet_at(label, 1),
-        octet_at(label, 2),
-        0,
-        0,
-        0,
-        0,
-        0,
-    ])
-}
 
 /// The key of a label without so many octets at its beginning.
 #[inline(always)]

@@ -7,17 +7,8 @@ ghost use Rattle.dns_zoneindex.specs.Starts.{AreStarts};
 
 use dns_memory::Heap;
 use dns_names::NameRef;
+use dns_zone::split;
 use std::alloc::AllocError;
-
-/// The first label of a name, the one next to the host, and the name above it. The root has none.
-pub(crate) fn split<'n>(name: &NameRef<'n>) -> Option<(&'n [u8], NameRef<'n>)>
-    ensures found { IfSome result (λ parts. name.now ≡ parts.0.now ∷ parts.1) }
-    ensures none { IfNone result (name.now ≡ []) }
-{
-    let above = name.parent()?;
-    let label = name.labels().next()?;
-    Some((label, above))
-}
 
 /// The labels of a name from the root down.
 pub(crate) fn path_of<'n>(

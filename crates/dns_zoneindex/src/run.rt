@@ -2,7 +2,7 @@
 ghost use Rattle.std.specs.Prelude.{◌≡◌, length, IfSome, IfNone};
 ghost use Rattle.dns_zoneindex.specs.Children.{items, joined, AllFull, AreChildren};
 ghost use Rattle.dns_zoneindex.specs.Entries.{flat};
-ghost use Rattle.dns_zoneindex.specs.Lent.{IsLent, IsThere, IsBeyond, IsStep};
+ghost use Rattle.dns_zoneindex.specs.Lent.{IsLent, IsThere, IsBeyond, LeadsToRun};
 ghost use Rattle.dns_zoneindex.specs.Owned.{path_records};
 
 use crate::node::{Branch, Children, Group, Kind, Node, Slot};
@@ -95,7 +95,7 @@ impl Node {
     /// The same, or where to look for them.
     #[inline(always)]
     fn step(&self, position: usize) -> Step<'_>
-        ensures { IsStep self.now.own position result }
+        ensures { LeadsToRun self.now.own position result }
     {
         match &self.kind {
             Kind::Leaf(record) => {
@@ -113,7 +113,7 @@ impl Branch {
     /// Records from an index on, of all that are at and under the name, or where to look for them.
     #[inline(always)]
     fn step(&self, position: usize) -> Step<'_>
-        ensures { IsStep self.now.own position result }
+        ensures { LeadsToRun self.now.own position result }
     {
         let own = self.records.as_slice();
         if position < own.len() {

@@ -13,7 +13,7 @@ refusal_of_doubles-requires g c =
 
 pub returns-then-not-rises-clause-refused : goal.returns-then-not-rises-clause-refused
 returns-then-not-rises-clause-refused g c =
-    inr (fault_same c.args.apex c.args.records.items c.sort.new.records.items c.sort.ensures.same ∙ (λ i. zone_fault (sym c.lend.ensures i) (sym c.deref-then-not-rises.ensures.value i)) ∙ c.refusal_of_doubles.ensures)
+    inr (fault_same c.args.apex c.args.records.items c.sort.new.records.items c.sort.ensures.same ∙ (λ i. zone_fault (sym c.lend-then-not-rises.ensures i) (sym c.deref-then-not-rises.ensures.value i)) ∙ c.refusal_of_doubles.ensures)
 
 pub returns-in-Ok-clause-found : goal.returns-in-Ok-clause-found
 returns-in-Ok-clause-found g c =

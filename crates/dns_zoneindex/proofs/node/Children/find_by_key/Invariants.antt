@@ -1,7 +1,7 @@
 use Rattle.std.proofs.Common.{◌≡◌, drop}
 use Rattle.dns_zoneindex.specs.Children.{items}
 use Rattle.dns_zoneindex.specs.Assoc.{child_of}
-use Rattle.dns_zoneindex.specs.Keys.{IsKey}
+use Rattle.dns_zone.specs.Keys.{IsKey}
 use Rattle.dns_zoneindex.proofs.node.Children.find_by_key.Given as goal
 
 abbrev pub invariant-down : goal.invariant-down

@@ -1,6 +1,6 @@
 use Rattle.std.proofs.Common.{refl, arith}
 use Rattle.dns_names.specs.Lower.{AreOctets}
-use Rattle.dns_zoneindex.proofs.key.key_of.Goals as goal
+use Rattle.dns_zone.proofs.key.key_of.Goals as goal
 
 pub returns : goal.returns
 returns c =

@@ -1,6 +1,6 @@
 use Rattle.std.proofs.Common.{◌∙◌}
-use Rattle.dns_zoneindex.proofs.Keys.{key_of_two}
-use Rattle.dns_zoneindex.proofs.key.key_of_halves.Goals as goal
+use Rattle.dns_zone.proofs.Halves.{key_of_two}
+use Rattle.dns_zone.proofs.key.key_of_halves.Goals as goal
 
 pub returns : goal.returns
 returns c = λ label len front back octets.
