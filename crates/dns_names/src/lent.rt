@@ -5,7 +5,7 @@ ghost use Rattle.std.specs.Char.{to_ascii_lowercase};
 ghost use Rattle.dns_names.specs.Name.{Labels, IsName, IsUnder, wire, parent, is_wildcard, name_cmp};
 
 use crate::name::root_of;
-use crate::{Name, labels};
+use crate::{Name, labels, same_octets};
 use dns_memory::Heap;
 use std::alloc::AllocError;
 use std::cmp::Ordering;
@@ -131,7 +131,7 @@ impl<'a> NameRef<'a> {
     pub fn is(&self, other: &NameRef<'_>) -> bool
         ensures { IsTrue result ↔ (self.now ≡ other.now) }
     {
-        self.octets == other.octets
+        same_octets(self.octets, other.octets)
     }
 
     /// The order of names: labels from the root downward, as octets (RFC 4034 section 6.1).

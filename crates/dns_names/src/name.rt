@@ -14,7 +14,7 @@ ghost use Rattle.std.specs.Prelude.{refl};
 use crate::builder::Builder;
 use crate::run::{RunFault, run_end};
 use crate::text::split_letter;
-use crate::{NameError, NameRef, labels};
+use crate::{NameError, NameRef, labels, same_octets};
 use dns_memory::Heap;
 use smallvec::SmallVec;
 use std::alloc::AllocError;
@@ -241,7 +241,7 @@ impl PartialEq for Name {
         ensures value { result ≡ names_eq self.now other.now }
         ensures same { IsTrue result ↔ (self.now ≡ other.now) }
     {
-        self.octets.as_slice() == other.octets.as_slice()
+        same_octets(self.octets.as_slice(), other.octets.as_slice())
     }
 }
 
