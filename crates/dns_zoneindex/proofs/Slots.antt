@@ -20,8 +20,7 @@ use Rattle.dns_zoneindex.specs.Assoc.{child_of, put_child, without_child}
 use Rattle.dns_zone.specs.Keys.{IsKey, leading}
 use Rattle.dns_zoneindex.specs.Slots.{is_before, HasAlone, IsPlace}
 use Rattle.dns_zoneindex.proofs.Counts.{length-pushed}
-use Rattle.dns_zoneindex.proofs.Keys.{key_below, key_above, key_equal, ends_same}
-use Rattle.std.specs.Int.{w64, from_be_bytes}
+use Rattle.dns_zoneindex.proofs.Keys.{key_below, key_above, key_equal}
 use Rattle.dns_zoneindex.proofs.Under.{labels_same}
 use Rattle.dns_zoneindex.proofs.Sides.{label_total, all_map, children_front, children_back, past, child_past, put_past, without_past, child_before, put_before, without_before}
 
@@ -83,21 +82,6 @@ told_by_key k o q m p r e short = elim (eqb_tells k o) [
   | inl y ↦ y.0 ∙ called k o q m p r y.1 e short
   | inr n ↦ n.0 ∙ sym (elim (true_or_false (bytes_eq q m)) [
     | inl s ↦ absurd (n.1 (p.0 ∙ ap (leading 8) (bytes_same q m s) ∙ sym r.0))
-    | inr d ↦ d
-  ])
-]
-
--- the same of labels of nine to sixteen octets, by their last eight
-pub told_by_ends : (key x y : ℕ) (q m end own_end : List ℕ) → IsKey key q → IsKey key m → length q ≡ length m → 8 < length q → length q ≤ 16
-    → end ≡ drop (length q - 8) q
-    → own_end ≡ drop (length m - 8) m
-    → x ≡ from_be_bytes w64 end
-    → y ≡ from_be_bytes w64 own_end
-    → nat_eq x y ≡ bytes_eq q m
-told_by_ends key x y q m end own_end p r same more few e f xs ys = elim (eqb_tells x y) [
-  | inl s ↦ s.0 ∙ sym (ap (bytes_eq q) (sym (ends_same key q m end own_end p r same more few e f (sym xs ∙ s.1 ∙ ys))) ∙ bytes_itself q)
-  | inr n ↦ n.0 ∙ sym (elim (true_or_false (bytes_eq q m)) [
-    | inl s ↦ absurd (n.1 (xs ∙ ap (from_be_bytes w64) (e ∙ ap (λ l. drop (length l - 8) l) (bytes_same q m s) ∙ sym f) ∙ sym ys))
     | inr d ↦ d
   ])
 ]

@@ -8,10 +8,10 @@ ghost use Rattle.dns_zone.specs.Keys.{IsKey};
 ghost use Rattle.std.specs.Str.{bytes_eq};
 
 use crate::count::sum;
-use crate::key::end_alike;
 use crate::node::{Branch, Children, Node};
 use crate::records::Records;
 use dns_memory::Heap;
+use dns_names::same_octets;
 use dns_records::Record;
 use dns_zone::key_of;
 use smallvec::SmallVec;
@@ -126,6 +126,6 @@ impl Branch {
         if label.len() <= 8 {
             return true;
         }
-        end_alike(key, label, own.as_slice())
+        same_octets(label, own.as_slice())
     }
 }

@@ -5,6 +5,7 @@ ghost use Rattle.dns_zone.specs.Keys.{IsKey};
 ghost use Rattle.std.specs.Str.{bytes_eq};
 
 use crate::node::Node;
+use dns_names::same_octets;
 use dns_zone::key_of;
 use std::cmp::Ordering;
 
@@ -84,23 +85,5 @@ pub(crate) fn is_same(key: u64, label: &[u8], own: &[u8]) -> bool
     if key != key_of(own) {
         return false;
     }
-    end_alike(key, label, own)
-}
-
-/// Whether two labels of one length and one key are the same, if they have more than eight octets. Of up to
-/// sixteen the last eight tell it.
-#[inline(always)]
-pub(crate) fn end_alike(key: u64, label: &[u8], own: &[u8]) -> bool
-    requires key { IsKey key label.now }
-    requires own_key { IsKey key own.now }
-    requires same { length label.now ≡ length own.now }
-    requires more { 8 < length label.now }
-    ensures { result ≡ bytes_eq label.now own.now }
-{
-    if label.len() <= 16 {
-        if let (Some(end), Some(own_end)) = (label.last_chunk::<8>(), own.last_chunk::<8>()) {
-            return u64::from_be_bytes(*end) == u64::from_be_bytes(*own_end);
-        }
-    }
-    label == own
+    same_octets(label, own)
 }

@@ -14,7 +14,7 @@ use crate::group::MOST;
 use crate::key::is_same;
 use crate::records::Records;
 use dns_memory::Heap;
-use dns_names::NameRef;
+use dns_names::{NameRef, same_octets};
 use dns_records::Record;
 use dns_zone::{key_of, split};
 use smallvec::SmallVec;
@@ -457,7 +457,7 @@ impl Node {
     pub(crate) fn has_label(&self, label: &[u8]) -> bool
         ensures { result ≡ bytes_eq label.now self.now.label }
     {
-        label == self.label()
+        same_octets(label, self.label())
     }
 
     /// The same where the label's key is known, which tells most.
