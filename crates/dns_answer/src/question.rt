@@ -265,8 +265,8 @@ fn reply_in_lower_case<I: ZoneIndex>(
 }
 
 /// The reply to a query, octet for octet as it is defined, with its question: what the lookup finds, or
-/// REFUSED where its name is under no held apex. Where one record answers it, it takes the memory of the spare
-/// octets, if they have room.
+/// REFUSED where its name is under no held apex. A reply of one record, and most negative ones, take the
+/// memory of the spare octets, if they have room.
 pub fn reply<I: ZoneIndex>(
     alloc: Heap,
     spare: &mut Vec<u8, Heap>,

@@ -34,10 +34,10 @@ pub reply_of_more-requires-clause-first : goal.reply_of_more-requires-clause-fir
 reply_of_more-requires-clause-first g c =
     let zones = c.args.zones.now in
     let first = c.in-Some.first in
-    subst (λ (n : ℕ). IsFirst zones n first) c.qtype.ensures (first_found zones c.qtype.result c.reborrow.result first c.in-Some.ensures.found c.in-Some.ensures.lent)
+    subst (λ (n : ℕ). IsFirst zones n first) c.qtype-qtype.ensures (first_found zones c.qtype-qtype.result c.reborrow.result first c.in-Some.ensures.found c.in-Some.ensures.lent)
 
 pub returns-in-Some-2 : goal.returns-in-Some-2
 returns-in-Some-2 g c q echoes typed =
     let zones = c.args.zones.now in
-    let h = first_found zones c.qtype.result c.reborrow.result c.in-Some.first c.in-Some.ensures.found c.in-Some.ensures.lent in
-    (rw c.in-Some-2.is at c.in_ok-octets.ensures) zones c.qtype.result c.args.transport h q echoes (c.qtype.ensures ∙ typed)
+    let h = first_found zones c.qtype-qtype.result c.reborrow.result c.in-Some.first c.in-Some.ensures.found c.in-Some.ensures.lent in
+    (rw c.in-Some-2.is at c.in_ok-octets.ensures) zones c.qtype-qtype.result c.args.transport h q echoes (c.qtype-qtype.ensures ∙ typed)

@@ -12,7 +12,7 @@ use Rattle.dns_answer.proofs.Replies.{answered-is, replied}
 use Rattle.dns_answer.proofs.question.reply_of_more.Goals as goal
 
 pub resolve-requires : goal.resolve-requires
-resolve-requires g c = subst (λ (n : ℕ). IsFirst c.args.zones.now n c.args.first) (sym c.qtype.ensures) c.requires.first
+resolve-requires g c = subst (λ (n : ℕ). IsFirst c.args.zones.now n c.args.first) (sym c.qtype-qtype.ensures) c.requires.first
 
 pub reply_of_short-requires-clause-bare : goal.reply_of_short-requires-clause-bare
 reply_of_short-requires-clause-bare g c =
@@ -25,8 +25,8 @@ returns-in-Ok g c = IfOk-weaker c.reply_of_short.result _ _ (λ out e q echoes t
     let m = c.args.query.now.message in
     let zones = c.args.zones.now in
     let first = c.args.first in
-    let t = c.qtype.result in
-    let asked : t ≡ q.qtype = c.qtype.ensures ∙ typed in
+    let t = c.qtype-qtype.result in
+    let asked : t ≡ q.qtype = c.qtype-qtype.ensures ∙ typed in
     let fs = resolve zones first.name t in
     let found = c.as_slice-found.result.now in
     let are = subst (λ (ones : List Found). RepresentAll zones fs ones) (sym c.as_slice-found.ensures) c.in_ok-searched.ensures.represents in
