@@ -1,5 +1,5 @@
 -- The reply to a question that one record answers.
-use Rattle.std.proofs.Common.{◌≡◌, ℕ, ◌≤◌, Bool, true, false, List, [], ◌∷◌, length, refl, sym, ap, subst, ◌∙◌, arith}
+use Rattle.std.proofs.Common.{◌≡◌, ℕ, ◌≤◌, Bool, true, false, List, [], ◌∷◌, length, refl, sym, ap, ◌∙◌, arith}
 use Rattle.std.specs.Prelude.{Some, nat_le, if◌then◌else◌}
 use Rattle.std.proofs.lemmas.Bool.Decides.{nat_tests}
 use Rattle.dns_zone.specs.Zone.{Zone}
@@ -19,7 +19,7 @@ use Rattle.dns_request.specs.declared.request.Transport.{Transport}
 use Rattle.dns_request.specs.declared.request.Transport.TheVariants.{Udp, Tcp}
 use Rattle.dns_answer.specs.Answer.{fitted, reply_for, with_question}
 use Rattle.dns_answer.specs.Echoes.{Echoes}
-use Rattle.dns_answer.specs.Fit.{by_tcp, by_udp, by_udp_without_additional, failed}
+use Rattle.dns_answer.specs.Fit.{by_udp_without_additional, failed}
 use Rattle.dns_answer.specs.Sections.{is_authoritative, is_name_error}
 use Rattle.dns_answer.specs.Short.{AreSectionsOf}
 use Rattle.dns_answer.proofs.Replies.{whole}

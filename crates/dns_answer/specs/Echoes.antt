@@ -1,8 +1,6 @@
 -- A question as the code hands it on, the question that is stated, and the reply to it.
 use Rattle.std.specs.Prelude.{◌≡◌, ℕ, List}
 use Rattle.dns_zone.specs.Zone.{Zone}
-use Rattle.dns_lookup.specs.Lookup as stated
-use Rattle.dns_lookup.specs.Represented.{RepresentAll}
 use Rattle.dns_lookup.specs.Lent.{IsFirst}
 use Rattle.dns_lookup.specs.declared.chain.Found.{Found}
 use Rattle.dns_wire.specs.Message.{Question, Received}

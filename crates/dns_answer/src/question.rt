@@ -169,7 +169,13 @@ fn reply_of_more<'a, I: ZoneIndex>(
     let searched = resolve(alloc, zones, first, qtype)?;
     let found = searched.as_slice();
     let aa = is_authoritative(found);
-    let bare = reply_with_question(&query.message, question, aa, rcode_of(found), LentSections::none());
+    let bare = reply_with_question(
+        &query.message,
+        question,
+        aa,
+        rcode_of(found),
+        LentSections::none(),
+    );
     let short = short_reply(alloc, zones, found);
     match &short {
         Ok(short) => reply_of_short(alloc, spare, zones, bare, transport, found, short),

@@ -1,17 +1,13 @@
-use Rattle.std.proofs.Common.{◌≡◌, ℕ, ◌≤◌, List, [], ◌∷◌, length, sym, ap, subst, ◌∙◌, arith}
+use Rattle.std.proofs.Common.{◌≡◌, ℕ, ◌≤◌, List, [], ◌∷◌, length, sym, ap, subst, ◌∙◌}
 use Rattle.std.proofs.lemmas.Result.{IfOk-weaker}
 use Rattle.std.proofs.lemmas.Option.{IfSome_then}
-use Rattle.std.specs.Prelude.{Option, Some, None, IfSome}
-use Rattle.dns_zone.specs.Zone.{Zone}
 use Rattle.dns_records.specs.Record.{Record}
 use Rattle.dns_lookup.specs.Lookup.{resolve, zone_of}
-use Rattle.dns_lookup.specs.Lent.{AllLend, IsFirst}
+use Rattle.dns_lookup.specs.Lent.{AllLend}
 use Rattle.dns_lookup.specs.Represented.{RepresentAll}
 use Rattle.dns_lookup.specs.RepresentedLaws.{alone}
 use Rattle.dns_wire.specs.OneRecord.{one_answer}
-use Rattle.dns_wire.specs.Text.{text}
-use Rattle.dns_answer.specs.Answer.{answered, fitted, reply_for}
-use Rattle.dns_answer.specs.Echoes.{Echoes, IsReplyToFirst}
+use Rattle.dns_answer.specs.Answer.{fitted}
 use Rattle.dns_answer.proofs.OneReply.{answered_well, fits, one_reply}
 use Rattle.dns_answer.proofs.Replies.{answered-is}
 use Rattle.dns_answer.proofs.question.reply_of_one.Goals as goal

@@ -1,5 +1,4 @@
 use Rattle.std.proofs.Common.{◌≤◌, ℕ, List, length, sym, ap, subst, ◌∙◌}
-use Rattle.std.specs.Prelude.{IfSome}
 use Rattle.std.proofs.lemmas.Result.{IfOk-weaker}
 use Rattle.dns_wire.specs.Reply.{stated}
 use Rattle.dns_answer.specs.Answer.{fitted}
