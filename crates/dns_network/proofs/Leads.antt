@@ -24,15 +24,15 @@ use Rattle.dns_network.specs.Notes.{AreNoted, notes_of, notes_of_opened}
 use Rattle.dns_primary.specs.declared.event.Waiting.{Waiting}
 use Rattle.dns_primary.specs.declared.primary.Primary.{Primary}
 use Rattle.dns_primary.specs.Machine.{Waits}
-use Rattle.dns_primary.specs.Step.{Event, Flush}
+use Rattle.dns_primary.specs.Step.{Event}
 use Rattle.dns_primary.specs.Keeps.{IsWaiting}
 use Rattle.dns_network.specs.declared.network.Network.{Ghosts}
 use Rattle.dns_network.specs.declared.network.Note.TheVariants as note
 use Rattle.dns_network.specs.declared.network.Observer as notes
 use Rattle.dns_network.specs.declared.edge.Turn.{Turn}
 use Rattle.dns_network.specs.Delivery.{Served, Going, TakesEvent, AreGoing, AreSent, HasEffects, HasNoted, IsClosed, IsSameTurn, IsSent, reply_to_send}
-use Rattle.dns_network.specs.Turn.{TurnMoment, Asks, Moves, Happens, Closes, AreMoments, HasAsked, HasHappened, EventComes, IsCauseNoted, IsMoment, NoneWaits}
-use Rattle.dns_network.specs.Turns.{AreDone, HasParts, IsTurn}
+use Rattle.dns_network.specs.Turn.{TurnMoment, Moves, Happens, Closes, AreMoments, HasAsked, HasHappened, EventComes, IsCauseNoted, IsHandled, IsMoment, NoneWaits}
+use Rattle.dns_network.specs.Turns.{AreDone, HasParts, IsFlush, IsTurn}
 use Rattle.dns_network.proofs.Pushed.{set_there}
 use Rattle.dns_network.proofs.Steps.{steps_on}
 
@@ -138,12 +138,18 @@ module _ {I D S N L : Type 0} {i : zone_index.Ghosts I} {d : store.Ghosts D} (s 
     happened = is;
   }
 
-  pub happens : (event : Event) (effects : Effects) (old given told new : Served I D S N L i d) → EventComes n now event old given
-      → TakesEvent given.primary event told.primary effects → l.observes given.notes event effects told.notes
-      → told.connections ≡ given.connections → told.network ≡ given.network
-      → (goings : List Going) × HasEffects n l effects goings told new → MomentsLead s n l now old new
-  happens event effects old given told new is_given takes observed still asked (goings, is) =
-      by_one (Happens event effects goings) old new (happened event effects goings old given told new is_given takes observed still asked is)
+  -- an event came, and was handled
+  pub came_and_handled : (event : Event) (effects : Effects) (goings : List Going) (old given new : Served I D S N L i d) → EventComes n now event old given
+      → IsHandled n l event effects goings given new → HasHappened n l now event effects goings old new
+  came_and_handled event effects goings old given new is_given is = record {
+    given = given;
+    is_given = is_given;
+    told = is.told;
+    takes = is.takes;
+    observed = is.observed;
+    rest = is.rest;
+    happened = is.happened;
+  }
 
   -- a turn after which no reply waits, and one after which one does
   pub not_flushed : (rested : Option ℕ) (moments : List TurnMoment) (old new : Served I D S N L i d) → AreMoments s n l now moments old new
@@ -151,20 +157,11 @@ module _ {I D S N L : Type 0} {i : zone_index.Ghosts I} {d : store.Ghosts D} (s 
   not_flushed rested moments old new done parts none =
       record { first = moments; last = []; are = refl; between = new; done = done; parts = parts; flushed = refl; flush = inl (refl, none) }
 
-  pub flush_after : (rested : Option ℕ) (moments : List TurnMoment) (old done looked flushed new : Served I D S N L i d) (effects : Effects) (goings : List Going)
+  pub flush_after : (rested : Option ℕ) (moments last : List TurnMoment) (old done new : Served I D S N L i d)
       → AreMoments s n l now moments old done → HasParts s n l now rested moments old done
-      → HasAsked n done looked → HasHappened n l now Flush effects goings looked flushed → HasAsked n flushed new
-      → AreDone s n l now rested (moments ++ Asks ∷ Happens Flush effects goings ∷ Asks ∷ []) old new
-  flush_after rested moments old done looked flushed new effects goings first parts before flush pending = record {
-    first = moments;
-    last = Asks ∷ Happens Flush effects goings ∷ Asks ∷ [];
-    are = refl;
-    between = done;
-    done = first;
-    parts = parts;
-    flushed = (looked, before, (flushed, flush, (new, pending, refl)));
-    flush = inr (effects, goings, refl);
-  }
+      → IsFlush last → AreMoments s n l now last done new → AreDone s n l now rested (moments ++ last) old new
+  flush_after rested moments last old done new first parts flush flushed =
+      record { first = moments; last = last; are = refl; between = done; done = first; parts = parts; flushed = flushed; flush = inr flush }
 
   -- What was done is a turn, if it was noted that it begins and that it ends. What it was made with is what it left.
   pub is_turn : (rested : Option ℕ) (moments : List TurnMoment) (old begun : Served I D S N L i d) (primary primary' : Primary I D i d) (network network' : N) (notes notes' last : L)

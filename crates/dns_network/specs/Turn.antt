@@ -131,6 +131,15 @@ module _ {I D S N L : Type 0} {i : zone_index.Ghosts I} {d : store.Ghosts D} whe
   EventComes n now (Checkpoint index) old new = ⊥
   EventComes n now (Closed number) old new = ⊥
 
+  -- The primary took an event, it was observed, and its effects have happened.
+  pub record IsHandled (n : Ghosts N S) (l : notes.Ghosts L) (event : Event) (effects : Effects)
+      (goings : List Going) (old new : Served I D S N L i d) : Type 0 where
+    pub told : Served I D S N L i d
+    pub takes : TakesEvent old.primary event told.primary effects
+    pub observed : l.observes old.notes event effects told.notes
+    pub rest : told ≡ record old { primary = told.primary; notes = told.notes }
+    pub happened : HasEffects n l effects goings told new
+
   -- An event came, the primary took it, it was observed, and its effects have happened.
   pub record HasHappened (n : Ghosts N S) (l : notes.Ghosts L) (now : ℕ) (event : Event) (effects : Effects)
       (goings : List Going) (old new : Served I D S N L i d) : Type 0 where

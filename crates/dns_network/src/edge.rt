@@ -1,11 +1,11 @@
 //! Turns: what is done with the network, one turn after the other.
 ghost use Rattle.std.specs.Prelude.{◌≡◌, ◌⊎◌, ◌≤◌, ◌<◌, ℕ, Bool, List, [], map, replicate, false};
-ghost use Rattle.std.specs.Prelude.{Some, None, is_some, slice_get, IfOk, IsTrue};
+ghost use Rattle.std.specs.Prelude.{Some, None, is_some, length, take, slice_get, IfOk, IsTrue};
 ghost use Rattle.std.specs.Option.{option_copied_mut};
 ghost use Rattle.dns_primary.specs.declared.event.Effects.{Effects as StatedEffects};
 ghost use Rattle.dns_primary.specs.Keeps.{IsKept, header_out, reply_out};
 ghost use Rattle.dns_primary.specs.Machine.{IsListed, Machine};
-ghost use Rattle.dns_primary.specs.Step.{Pump};
+ghost use Rattle.dns_primary.specs.Step.{Datagram, Pump};
 ghost use Rattle.dns_primary.specs.Steps.{event_shown};
 ghost use Rattle.dns_network.specs.Closing.{StalledAreGone, UnusedAreGone};
 ghost use Rattle.dns_network.specs.Connection.{IsInUse, IsStalled, IsUnused, IsUnusedOrInUse, used_of};
@@ -15,10 +15,10 @@ ghost use Rattle.dns_network.specs.Notes.{AreNoted, notes_of};
 ghost use Rattle.dns_network.specs.Delivery.{AreSent, Going, HasEffects, IsClosed, IsSameTurn, IsSent};
 ghost use Rattle.dns_network.specs.Delivery.{RestsAsBefore, TakesEvent, connections_of, rested_of, served};
 ghost use Rattle.dns_network.specs.Delivery.{served_by};
-ghost use Rattle.dns_network.specs.Turn.{Happens, IsMoment, IsWelcomed, NoneWaits, TurnMoment};
-ghost use Rattle.dns_network.specs.Turn.{places_for_all};
-ghost use Rattle.dns_network.specs.Turns.{AreDone, AreIdle, AreServed, HasItsPart, IsAccepting, IsReading};
-ghost use Rattle.dns_network.specs.Turns.{IsReceiving, IsTurn};
+ghost use Rattle.dns_network.specs.Turn.{AreMoments, Happens, IsHandled, IsMoment, IsWelcomed, NoneWaits};
+ghost use Rattle.dns_network.specs.Turn.{TurnMoment, places_for_all};
+ghost use Rattle.dns_network.specs.Turns.{AreDone, AreIdle, AreServed, HasItsPart, IsAccepting, IsFlush};
+ghost use Rattle.dns_network.specs.Turns.{IsReading, IsReceiving, IsTurn};
 
 use crate::{Connection, Connections, Moved, Network, Note, Observer, Stream};
 use dns_memory::Heap;
@@ -184,9 +184,9 @@ impl<S: Stream + Drop> Edge<S> {
         &mut self,
         alloc: Heap,
         turn: &mut Turn<I, D, N, L>,
-        effects: Effects,
+        effects: &Effects,
     )
-        ensures happened { (goings : List Going) × HasEffects N.Network L.Observer effects goings
+        ensures happened { (goings : List Going) × HasEffects N.Network L.Observer effects.now goings
             (served_by turn.old self.old) (served_by turn.new self.new) }
         ensures rested { RestsAsBefore self.old self.new }
         ensures same { IsSameTurn turn.old turn.new }
@@ -271,6 +271,7 @@ impl<S: Stream + Drop> Edge<S> {
     }
 
     /// Reads one datagram, if one came, and lets it be answered.
+    #[inline(always)]
     fn receive<I: ZoneIndex, D: ZoneStore, N: Network<S>, L: Observer>(
         &mut self,
         alloc: Heap,
@@ -285,10 +286,31 @@ impl<S: Stream + Drop> Edge<S> {
         let Some((count, peer)) = turn.network.receive(&mut self.buffer) else {
             return false;
         };
-        let datagram = Event::Datagram(peer, &self.buffer[..count]);
-        let effects = turn.happen(alloc, datagram);
-        self.deliver(alloc, turn, effects);
+        self.answer(alloc, turn, count, peer);
         true
+    }
+
+    /// Lets the datagram of so many octets that is in the buffer be answered. It does itself what `happen`
+    /// does, and is compiled apart, so that the effects stay where they are made.
+    #[inline(never)]
+    fn answer<I: ZoneIndex, D: ZoneStore, N: Network<S>, L: Observer>(
+        &mut self,
+        alloc: Heap,
+        turn: &mut Turn<I, D, N, L>,
+        count: usize,
+        peer: Peer,
+    )
+        requires { count ≤ length self.old.buffer.items }
+        ensures answers { (effects : StatedEffects) × (goings : List Going)
+            × IsHandled N.Network L.Observer (Datagram peer (take count self.old.buffer.items)) effects goings
+            (served_by turn.old self.old) (served_by turn.new self.new) }
+        ensures rested { RestsAsBefore self.old self.new }
+        ensures same { IsSameTurn turn.old turn.new }
+    {
+        let datagram = Event::Datagram(peer, &self.buffer[..count]);
+        let effects = turn.primary.step(alloc, datagram);
+        turn.notes.observe(datagram, &effects);
+        self.deliver(alloc, turn, &effects);
     }
 
     /// Queues the next message of the transfer that is open on a connection, and answers whether there was
@@ -309,7 +331,7 @@ impl<S: Stream + Drop> Edge<S> {
     {
         let effects = turn.happen(alloc, Event::Pump(number));
         let is_sent = effects.message.is_some();
-        self.deliver(alloc, turn, effects);
+        self.deliver(alloc, turn, &effects);
         is_sent
     }
 
@@ -340,7 +362,7 @@ impl<S: Stream + Drop> Edge<S> {
         }
         if let Some(message) = self.connections.next_message(number, now) {
             let effects = turn.happen(alloc, Event::Message(number, &message));
-            self.deliver(alloc, turn, effects);
+            self.deliver(alloc, turn, &effects);
             return true;
         }
         if self.connections.is_silent(number, now) {
@@ -429,6 +451,26 @@ impl<S: Stream + Drop> Edge<S> {
         is_done
     }
 
+    /// Lets a flush happen, and the network look before and after it. It is compiled apart, so that a turn
+    /// without one doesn't pay for it.
+    #[inline(never)]
+    fn flush<I: ZoneIndex, D: ZoneStore, N: Network<S>, L: Observer>(
+        &mut self,
+        alloc: Heap,
+        turn: &mut Turn<I, D, N, L>,
+    )
+        ensures flushes { (now : ℕ) → (moments : List TurnMoment) × IsFlush moments
+            × AreMoments S.Stream N.Network L.Observer now moments (served_by turn.old self.old)
+            (served_by turn.new self.new) }
+        ensures rested { RestsAsBefore self.old self.new }
+        ensures same { IsSameTurn turn.old turn.new }
+    {
+        turn.network.look();
+        let effects = turn.happen(alloc, Event::Flush);
+        self.deliver(alloc, turn, &effects);
+        turn.network.look();
+    }
+
     /// Does what is to be done in a turn, and answers whether there was something.
     #[inline(always)]
     fn work<I: ZoneIndex, D: ZoneStore, N: Network<S>, L: Observer>(
@@ -453,10 +495,7 @@ impl<S: Stream + Drop> Edge<S> {
         let visited = self.serve_connections(alloc, turn, now);
         let mut is_done = accepted | received | visited;
         if turn.primary.has_waiting() {
-            turn.network.look();
-            let effects = turn.happen(alloc, Event::Flush);
-            self.deliver(alloc, turn, effects);
-            turn.network.look();
+            self.flush(alloc, turn);
             is_done = true;
         }
         is_done
@@ -472,6 +511,7 @@ impl<S: Stream + Drop> Edge<S> {
     /// A read or a write that would wait does nothing, and one that fails closes its connection. So does
     /// refused memory. If a turn before, in the same second, found that no connection had something to do,
     /// and the network is still, the connections are passed over.
+    #[inline(always)]
     pub fn turn<I: ZoneIndex, D: ZoneStore, N: Network<S>, L: Observer>(
         &mut self,
         alloc: Heap,
@@ -524,6 +564,7 @@ impl<I: ZoneIndex, D: ZoneStore, N, L: Observer> Turn<'_, '_, '_, I, D, N, L> {
 }
 
 /// Tells what was noted of an event.
+#[inline(always)]
 fn tell<L: Observer>(notes: &mut L, noted: Noted)
     ensures { AreNoted L.Observer (notes_of noted) notes.old notes.new }
 {

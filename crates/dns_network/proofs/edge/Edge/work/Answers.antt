@@ -1,9 +1,7 @@
-use Rattle.std.proofs.Common.{◌≡◌, true, false, [], ◌∷◌, ◌++◌, Some, refl, inr}
-use Rattle.dns_primary.specs.Step.{Flush}
-use Rattle.dns_network.specs.Delivery.{rested_of, served, served_by}
-use Rattle.dns_network.specs.Turn.{Asks, Happens}
+use Rattle.std.proofs.Common.{◌≡◌, true, false, [], ◌++◌, Some}
+use Rattle.dns_network.specs.Delivery.{rested_of, served_by}
 use Rattle.dns_network.proofs.Gone.{stalled_after, stalled_between, unused_after, unused_between}
-use Rattle.dns_network.proofs.Leads.{MomentsLead, flush_after, happened, happens, none_waits, not_flushed}
+use Rattle.dns_network.proofs.Leads.{MomentsLead, flush_after, none_waits, not_flushed}
 use Rattle.dns_network.proofs.Parts.{idle_on, moments_on, none_of_three, parts_are, parts_idle, parts_moments, served_leads}
 use Rattle.dns_network.proofs.edge.Edge.work.Goals as goal
 
@@ -49,19 +47,14 @@ returns-then-has_waiting-clause-done g c =
     let rested = rested_of c.args.self.now in
     let after = rested_of c.receive-received.new.self in
     let rests = λ (is : after ≡ Some now). c.accept-accepted.ensures.rested now (c.receive-received.ensures.rested now is) in
-    let looked = served c.serve_connections-visited.new.turn.primary.now c.serve_connections-visited.new.self c.look.new.self c.serve_connections-visited.new.turn.notes.now in
-    let told = served_by c.happen-effects.new.self c.serve_connections-visited.new.self in
-    let flushed = served_by c.deliver.new.turn c.deliver.new.self in
-    let new = served c.deliver.new.turn.primary.now c.deliver.new.self c.look-then-has_waiting.new.self c.deliver.new.turn.notes.now in
-    let goings = c.deliver.ensures.happened.0 in
+    let new = served_by c.flush.new.turn c.flush.new.self in
+    let (last, flush, flushed) = c.flush.ensures.flushes now in
     let moments = accepting ++ receiving ++ serving in (
-      moments ++ Asks ∷ Happens Flush c.happen-effects.result goings ∷ Asks ∷ [],
-      flush_after g.S.Stream g.N.Network g.L.Observer now rested moments old done looked flushed new c.happen-effects.result goings
+      moments ++ last,
+      flush_after g.S.Stream g.N.Network g.L.Observer now rested moments last old done new
           (parts_moments g.S.Stream g.N.Network g.L.Observer now rested after accepting receiving serving c.accept-accepted.result c.receive-received.result old accepted received done accepts receives serves)
           (parts_are g.S.Stream g.N.Network g.L.Observer now rested after accepting receiving serving c.accept-accepted.result c.receive-received.result old accepted received done accepts receives serves rests)
-          (record { rest = refl; nothing = inr (inr c.look.ensures) })
-          (happened g.S.Stream g.N.Network g.L.Observer now Flush c.happen-effects.result goings looked looked told flushed refl c.happen-effects.ensures.takes c.happen-effects.ensures.observed refl c.happen-effects.ensures.network c.deliver.ensures.happened.1)
-          (record { rest = refl; nothing = inr (inr c.look-then-has_waiting.ensures) }),
+          flush flushed,
       λ none. absurd (let clash : true ≡ false = none in cc),
     )
 
@@ -118,11 +111,10 @@ returns-then-has_waiting-clause-unused g c = λ not m kept.
     let first : MomentsLead g.S.Stream g.N.Network g.L.Observer now old received = (accepting ++ receiving, moments_on g.S.Stream g.N.Network g.L.Observer now accepting receiving old accepted received accepts.are receives.are) in
     let leads = served_leads g.S.Stream g.N.Network g.L.Observer now after serving received done serves in
     let visits = λ (is : after ≡ Some now). not (rests is) in
-    let looked = served c.serve_connections-visited.new.turn.primary.now c.serve_connections-visited.new.self c.look.new.self c.serve_connections-visited.new.turn.notes.now in
-    let told = served_by c.happen-effects.new.self c.serve_connections-visited.new.self in
-    let flushed = served_by c.deliver.new.turn c.deliver.new.self in
-    let flush = happens g.S.Stream g.N.Network g.L.Observer now Flush c.happen-effects.result looked looked told flushed refl c.happen-effects.ensures.takes c.happen-effects.ensures.observed refl c.happen-effects.ensures.network c.deliver.ensures.happened in
-    unused_after g.S.Stream g.N.Network g.L.Observer now old.connections looked flushed (unused_between g.S.Stream g.N.Network g.L.Observer now old received done first leads (λ e kept'. c.serve_connections-visited.ensures.unused visits e kept') m kept) flush
+    let new = served_by c.flush.new.turn c.flush.new.self in
+    let (last, flush, flushed) = c.flush.ensures.flushes now in
+    let leads_on : MomentsLead g.S.Stream g.N.Network g.L.Observer now done new = (last, flushed) in
+    unused_after g.S.Stream g.N.Network g.L.Observer now old.connections done new (unused_between g.S.Stream g.N.Network g.L.Observer now old received done first leads (λ e kept'. c.serve_connections-visited.ensures.unused visits e kept') m kept) leads_on
 
 pub returns-then-has_waiting-clause-stalled : goal.returns-then-has_waiting-clause-stalled
 returns-then-has_waiting-clause-stalled g c = λ not.
@@ -140,11 +132,10 @@ returns-then-has_waiting-clause-stalled g c = λ not.
     let first : MomentsLead g.S.Stream g.N.Network g.L.Observer now old received = (accepting ++ receiving, moments_on g.S.Stream g.N.Network g.L.Observer now accepting receiving old accepted received accepts.are receives.are) in
     let leads = served_leads g.S.Stream g.N.Network g.L.Observer now after serving received done serves in
     let visits = λ (is : after ≡ Some now). not (rests is) in
-    let looked = served c.serve_connections-visited.new.turn.primary.now c.serve_connections-visited.new.self c.look.new.self c.serve_connections-visited.new.turn.notes.now in
-    let told = served_by c.happen-effects.new.self c.serve_connections-visited.new.self in
-    let flushed = served_by c.deliver.new.turn c.deliver.new.self in
-    let flush = happens g.S.Stream g.N.Network g.L.Observer now Flush c.happen-effects.result looked looked told flushed refl c.happen-effects.ensures.takes c.happen-effects.ensures.observed refl c.happen-effects.ensures.network c.deliver.ensures.happened in
-    stalled_after g.S.Stream g.N.Network g.L.Observer now old.connections looked flushed (stalled_between g.S.Stream g.N.Network g.L.Observer now old received done first leads (c.serve_connections-visited.ensures.stalled visits)) flush
+    let new = served_by c.flush.new.turn c.flush.new.self in
+    let (last, flush, flushed) = c.flush.ensures.flushes now in
+    let leads_on : MomentsLead g.S.Stream g.N.Network g.L.Observer now done new = (last, flushed) in
+    stalled_after g.S.Stream g.N.Network g.L.Observer now old.connections done new (stalled_between g.S.Stream g.N.Network g.L.Observer now old received done first leads (c.serve_connections-visited.ensures.stalled visits)) leads_on
 
 pub returns-then-has_waiting-clause-rested : goal.returns-then-has_waiting-clause-rested
-returns-then-has_waiting-clause-rested g c = λ second rested. c.serve_connections-visited.ensures.rested second (c.deliver.ensures.rested second rested)
+returns-then-has_waiting-clause-rested g c = λ second rested. c.serve_connections-visited.ensures.rested second (c.flush.ensures.rested second rested)
