@@ -26,6 +26,7 @@ use dns_primary::{Effects, Event, HeaderTo, Noted, Peer, Primary, Reply, To};
 use dns_store::ZoneStore;
 use dns_zone::ZoneIndex;
 use std::alloc::AllocError;
+use std::mem;
 use std::net::IpAddr;
 
 /// How many octets are read at once. A datagram of over 512 octets is distinguished from shorter ones by its
@@ -48,13 +49,15 @@ struct Turn<'n, 'p, 'l, I: ZoneIndex, D: ZoneStore, N, L> {
     notes: &'l mut L,
 }
 
-/// The connections of a server, and a buffer for what is read.
+/// The connections of a server, and buffers for what is read and for a reply.
 pub struct Edge<S: Stream> {
     connections: Connections<S>,
     // the second in which each connection was last found to have nothing to do, since when none has got
     // something to send
     rested: Option<u64>,
     buffer: Vec<u8, Heap>,
+    // the last reply to a datagram, whose memory is lent to the primary for the next
+    spare: Vec<u8, Heap>,
 }
 
 // Written out, so that a proof lets one go by one call (docs/GATE.md).
@@ -64,8 +67,9 @@ impl<S: Stream + Drop> Drop for Edge<S> {
             connections,
             rested: _,
             buffer,
+            spare,
         } = self;
-        drop((connections, buffer));
+        drop((connections, buffer, spare));
     }
 }
 
@@ -82,6 +86,7 @@ impl<S: Stream + Drop> Edge<S> {
             connections: Connections::new(alloc)?,
             rested: None,
             buffer,
+            spare: Vec::new(alloc),
         })
     }
 
@@ -290,8 +295,9 @@ impl<S: Stream + Drop> Edge<S> {
         true
     }
 
-    /// Lets the datagram of so many octets that is in the buffer be answered. It does itself what `happen`
-    /// does, and is compiled apart, so that the effects stay where they are made.
+    /// Lets the datagram of so many octets that is in the buffer be answered, in the memory of the reply
+    /// before. It does itself what `happen` does, and is compiled apart, so that the effects stay where they
+    /// are made.
     #[inline(never)]
     fn answer<I: ZoneIndex, D: ZoneStore, N: Network<S>, L: Observer>(
         &mut self,
@@ -307,10 +313,13 @@ impl<S: Stream + Drop> Edge<S> {
         ensures rested { RestsAsBefore self.old self.new }
         ensures same { IsSameTurn turn.old turn.new }
     {
+        turn.primary
+            .lend(mem::replace(&mut self.spare, Vec::new(alloc)));
         let datagram = Event::Datagram(peer, &self.buffer[..count]);
         let effects = turn.primary.step(alloc, datagram);
         turn.notes.observe(datagram, &effects);
         self.deliver(alloc, turn, &effects);
+        self.spare = effects.into_octets(alloc);
     }
 
     /// Queues the next message of the transfer that is open on a connection, and answers whether there was

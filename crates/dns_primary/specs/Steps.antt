@@ -130,6 +130,16 @@ SteppedBy m event old new effects =
     SteppedOn m (machine.base_moved m event) old new effects
     (λ fails stated next. machine.Step fails m event stated next)
 
+-- A primary has the state that it had: it keeps the machines that it kept, each step from what it is now is one from
+-- what it was, and each step that led to what it was led to what it is now.
+pub record HasSameState {I S : Type 0} {i : zone_index.Ghosts I} {s : store.Ghosts S} (old new : Primary I S i s)
+    : Type 0 where
+  pub kept : (m : Machine) → IsKept old m → IsKept new m
+  pub stepped : (m : Machine) (event : machine.Event) (next : Primary I S i s) (effects : Effects)
+      → SteppedBy m event new next effects → SteppedBy m event old next effects
+  pub led : (m : Machine) (event : machine.Event) (before : Primary I S i s) (effects : Effects)
+      → SteppedBy m event before old effects → SteppedBy m event before new effects
+
 -- What is noted where a device failed that came after others.
 abbrev pub noted_then : Noted → ℕ → Noted
 noted_then Nothing index = Device index

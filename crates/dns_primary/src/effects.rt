@@ -19,6 +19,20 @@ use dns_wire::Rcode;
 use std::alloc::AllocError;
 
 impl Effects {
+    /// The octets of the longer reply, or none: once it is sent, they can be lent to the primary.
+    #[inline(always)]
+    pub fn into_octets(mut self, alloc: Heap) -> Vec<u8, Heap> {
+        match self.message.take() {
+            Some(
+                Reply {
+                    octets: ReplyOctets::Longer(octets),
+                    ..
+                },
+            ) => octets,
+            _ => Vec::new(alloc),
+        }
+    }
+
     /// Nothing goes out, and nothing is to be known.
     pub(crate) fn nothing(alloc: Heap) -> Effects
         ensures effects_are { AreEffects nothing result }

@@ -204,6 +204,7 @@ impl<D: Sectors + Drop, I: ZoneIndex> Primary<I, KeptStore<D, I>> {
                 places: Vec::new(alloc),
                 connections,
                 transfers: Vec::new(alloc),
+                spare: Vec::new(alloc),
             }),
             Err(refusal) => Err(NotOpened {
                 index: refusal.index,
@@ -237,6 +238,7 @@ impl<D: Sectors + Drop, I: ZoneIndex> Primary<I, KeptStore<D, I>> {
             places: _,
             connections: _,
             transfers: _,
+            spare: _,
         } = self;
         pending
     }

@@ -51,13 +51,8 @@ impl<I: ZoneIndex, S: ZoneStore> Primary<I, S> {
             }
             Request::Query(query) => {
                 let header = header_octets(&query);
-                let mut octets = Vec::new(alloc);
-                Effects::reply(
-                    alloc,
-                    to,
-                    header,
-                    reply(alloc, &mut octets, &self.zones, &query, transport),
-                )
+                let octets = reply(alloc, &mut self.spare, &self.zones, &query, transport);
+                Effects::reply(alloc, to, header, octets)
             }
             Request::Update(request) => {
                 let header = header_octets(&request);

@@ -5,7 +5,7 @@
 ghost use Rattle.std.specs.Prelude.{◌≡◌, ℕ, Option, slice_get};
 ghost use Rattle.dns_primary.specs.Machine.{Machine};
 ghost use Rattle.dns_primary.specs.Keeps.{IsKept};
-ghost use Rattle.dns_primary.specs.Steps.{SteppedBy, event_shown};
+ghost use Rattle.dns_primary.specs.Steps.{HasSameState, SteppedBy, event_shown};
 ghost use Rattle.dns_replay.specs.Scripts.{shown_version};
 
 use dns_memory::Heap;
@@ -37,6 +37,31 @@ pub(crate) fn happen<H, E, R, P: TakesEvents<H, E, R>>(primary: &mut P, heap: H,
     ensures { P.stepped primary.old primary.new event result }
 {
     primary.take_event(heap, event)
+}
+
+/// What takes back the memory of effects that have been printed, as a server does when they were sent.
+pub(crate) trait TakesBack<H, R> {
+    /// It has the state that it had.
+    ghost stays: { Self → Self → Type 0 };
+
+    /// Takes back the memory of effects.
+    fn take_back(&mut self, heap: H, effects: R)
+        ensures { stays self.old self.new };
+}
+
+impl<I: ZoneIndex, S: ZoneStore> TakesBack<Heap, Effects> for Primary<I, S> {
+    ghost stays = { λ old new. HasSameState old new };
+
+    fn take_back(&mut self, heap: Heap, effects: Effects) {
+        self.lend(effects.into_octets(heap));
+    }
+}
+
+/// Gives back the memory of effects that have been printed.
+pub(crate) fn give_back<H, R, P: TakesBack<H, R>>(primary: &mut P, heap: H, effects: R)
+    ensures { P.stays primary.old primary.new }
+{
+    primary.take_back(heap, effects);
 }
 
 /// What shows a version of each of its zones.

@@ -11,7 +11,7 @@ ghost use Rattle.dns_primary.specs.Open.{devices_of};
 ghost use Rattle.dns_replay.specs.Runs.{OpensIn, crash_by};
 
 use crate::device::ScriptDevice;
-use crate::events::happen;
+use crate::events::{give_back, happen};
 use crate::keeps::{Keep, ZoneKeep};
 use crate::print::{print_effects, print_recovered, print_refusal, print_stop};
 use crate::run::After;
@@ -147,6 +147,7 @@ fn run_step<D: ScriptDevice, I: ZoneIndex, W: Write>(
         return Ok(None);
     }
     print_effects(world.heap, world.origins, event, &effects, out)?;
+    give_back(&mut running, world.heap, effects);
     Ok(Some(running))
 }
 

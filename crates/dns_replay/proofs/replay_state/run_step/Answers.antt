@@ -10,5 +10,8 @@ returns-then-stopped g c =
 
 pub returns : goal.returns
 returns g c =
-    happened c.args.world.origins.now c.args.world.settings.now (event_shown c.args.event) c.args.running c.happen-effects.new.primary c.happen-effects.result c.args.devices.now.items c.args.devices.now.items (g.W.Write.contents c.args.out.now) (g.W.Write.contents c.print_effects.new.out) c.happen-effects.ensures (λ m st. stay_honest g.D.Sectors c.args.running.pending.items c.happen-effects.new.primary.pending.items st.honest)
+    let shown = event_shown c.args.event in
+    let lent = c.give_back.new.primary in
+    happened c.args.world.origins.now c.args.world.settings.now shown c.args.running lent c.happen-effects.result c.args.devices.now.items c.args.devices.now.items (g.W.Write.contents c.args.out.now) (g.W.Write.contents c.print_effects.new.out)
+    (λ m kept. c.give_back.ensures.led m shown c.args.running c.happen-effects.result (c.happen-effects.ensures m kept)) (λ m st. stay_honest g.D.Sectors c.args.running.pending.items lent.pending.items st.honest)
     c.in_ok-print_effects.ensures

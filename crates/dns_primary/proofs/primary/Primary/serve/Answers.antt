@@ -62,9 +62,27 @@ returns-in-Query-clause-step g c old kept =
     let is = subst (λ (xs : List ℕ). IfOk c.reply-in-Query.result (λ v. v.items ≡ fitted c.args.transport (answered (shown_zones old) xs q.message.message q.question))) of shown in
     let header : header_of c.header_octets-header-in-Query.result.now ≡ header_of octets = c.header_octets-header-in-Query.ensures.octets ∙ ap header_of of in
     let none = subst (λ (h : Header). IfErr c.reply-in-Query.result (λ _. AreEffects (lack (Replied c.args.to (text (bare_reply h rcode_servfail)))) c.reply-in-Query-2.result)) header c.reply-in-Query-2.ensures.failed in
-    on_any old c.args.self.now c.args.self.now c.reply-in-Query-2.result (request_lacks old c.args.to c.args.peer (handled (shown_zones old) octets c.args.transport)) (IsServedOrLacks old c.args.peer c.args.to octets c.args.transport)
+    let s = on_any old c.args.self.now c.args.self.now c.reply-in-Query-2.result (request_lacks old c.args.to c.args.peer (handled (shown_zones old) octets c.args.transport)) (IsServedOrLacks old c.args.peer c.args.to octets c.args.transport)
     (replies_or_lacks c.args.self.now old c.reply-in-Query-2.result c.args.peer c.args.to octets c.args.transport r reply c.in-Query.ensures.request (λ e. cc e) refl (rests g.S.ZoneStore c.args.self.now.zones.items c.args.self.now.pending.items (map kept_of old.zones) (λ x k h honest y left. g.met.S.ZoneStore.at_rest x k h honest y left) kept.zones_are) kept
-    (replied (λ v. v.items) c.reply-in-Query.result c.reply-in-Query-2.result c.args.to reply (text (bare_reply (header_of octets) rcode_servfail)) is c.reply-in-Query-2.ensures.sent none))
+    (replied (λ v. v.items) c.reply-in-Query.result c.reply-in-Query-2.result c.args.to reply (text (bare_reply (header_of octets) rcode_servfail)) is c.reply-in-Query-2.ensures.sent none)) in
+    record {
+      fails = s.fails;
+      failed = s.failed;
+      any_moment = s.any_moment;
+      honest = s.honest;
+      next = s.next;
+      stated = s.stated;
+      is = s.is;
+      effects_are = s.effects_are;
+      kept = record {
+        zones_are = s.kept.zones_are;
+        settings_are = s.kept.settings_are;
+        waiting_are = s.kept.waiting_are;
+        connections_are = s.kept.connections_are;
+        transfers_are = s.kept.transfers_are;
+        as_many = s.kept.as_many;
+      };
+    }
 
 pub returns-in-Update-clause-step : goal.returns-in-Update-clause-step
 returns-in-Update-clause-step g c old kept =
