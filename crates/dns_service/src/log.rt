@@ -193,6 +193,14 @@ pub(crate) struct Log<'a, E: Write> {
 }
 
 impl<E: Write> Log<'_, E> {
+    /// Whether no line is left to write.
+    #[inline(always)]
+    fn has_no_line(&self) -> bool
+        ensures { result ≡ true → self.now.lines.now.items ≡ [] }
+    {
+        self.lines.is_empty()
+    }
+
     /// Whether all that was to be written is.
     pub(crate) fn is_written(&self) -> bool
         ensures whole { result ≡ true → self.now.has_failed ≡ false }
@@ -201,7 +209,7 @@ impl<E: Write> Log<'_, E> {
         if self.has_failed {
             return false;
         }
-        self.lines.is_empty()
+        self.has_no_line()
     }
 
     /// Writes what is still to be written.
@@ -398,7 +406,7 @@ impl<E: Write> Observer for Log<'_, E> {
     #[inline(always)]
     fn end_turn(&mut self) {
         self.diagnostics.note(Note::Ends);
-        if self.lines.is_empty() {
+        if self.has_no_line() {
             return;
         }
         self.settle();
