@@ -190,6 +190,7 @@ impl Counters {
     }
 
     /// Counts what an event did: the replies that go out, and the transfer that it opened or ended.
+    #[inline(never)]
     pub(crate) fn count_event(&mut self, event: Event<'_>, effects: &Effects)
         ensures { self.new ≡ with_event self.old (event_shown event.entry) effects.now }
     {
@@ -199,6 +200,7 @@ impl Counters {
     }
 
     /// Counts a connection that is opened, closed or refused.
+    #[inline(never)]
     pub(crate) fn count_note(&mut self, note: Note)
         ensures { self.new ≡ with_note self.old note }
     {

@@ -30,7 +30,7 @@ impl Counting {
     }
 
     /// Counts a note.
-    #[inline]
+    #[inline(always)]
     pub fn note(&mut self, note: Note)
         ensures on { self.new.is_on ≡ self.old.is_on }
         ensures counted { self.new.counters ≡ counted_if self.old.is_on self.old.counters (OfNote note) }
@@ -41,7 +41,7 @@ impl Counting {
     }
 
     /// Counts what an event did.
-    #[inline]
+    #[inline(always)]
     pub fn observe(&mut self, event: Event<'_>, effects: &Effects)
         ensures on { self.new.is_on ≡ self.old.is_on }
         ensures counted { self.new.counters

@@ -47,7 +47,7 @@ impl Diagnostics {
     }
 
     /// Takes a note. The lines of the turn before are forgotten when one begins.
-    #[inline]
+    #[inline(always)]
     pub fn note(&mut self, note: Note)
         ensures on { self.new.is_on ≡ self.old.is_on }
         ensures off { self.old.is_on ≡ false → self.new ≡ self.old }
@@ -58,7 +58,7 @@ impl Diagnostics {
     }
 
     /// Takes what an event did, at a server of zones with these names, by their indices.
-    #[inline]
+    #[inline(always)]
     pub fn observe(&mut self, origins: &[Name], event: Event<'_>, effects: &Effects)
         ensures on { self.new.is_on ≡ self.old.is_on }
         ensures off { self.old.is_on ≡ false → self.new ≡ self.old }

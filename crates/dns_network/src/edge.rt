@@ -251,8 +251,10 @@ impl<S: Stream + Drop> Edge<S> {
         self.connections.open_count() >= PLACES_FOR_ALL && !primary.lists(address)
     }
 
-    /// Accepts one connection, if a peer made one. One for which there is no place is let go at once.
-    fn accept<I: ZoneIndex, D: ZoneStore, N: Network<S>, L: Observer>(
+    /// Asks for one connection, and accepts it if a peer made one. One for which there is no place is let go at
+    /// once. It is compiled apart, so that a turn in which none comes doesn't pay for it.
+    #[inline(never)]
+    fn ask_for_connection<I: ZoneIndex, D: ZoneStore, N: Network<S>, L: Observer>(
         &mut self,
         alloc: Heap,
         turn: &mut Turn<I, D, N, L>,
@@ -273,6 +275,26 @@ impl<S: Stream + Drop> Edge<S> {
         }
         self.open_connection(alloc, turn, stream, peer, now);
         true
+    }
+
+    /// Accepts one connection, if a peer made one. Where the network knows that none did, that costs one test.
+    #[inline(always)]
+    fn accept<I: ZoneIndex, D: ZoneStore, N: Network<S>, L: Observer>(
+        &mut self,
+        alloc: Heap,
+        turn: &mut Turn<I, D, N, L>,
+        now: u64,
+    ) -> bool
+        ensures accepts { (moments : List TurnMoment)
+            × IsAccepting S.Stream N.Network L.Observer now result moments
+            (served_by turn.old self.old) (served_by turn.new self.new) }
+        ensures rested { RestsAsBefore self.old self.new }
+        ensures same { IsSameTurn turn.old turn.new }
+    {
+        if !turn.network.may_accept() {
+            return false;
+        }
+        self.ask_for_connection(alloc, turn, now)
     }
 
     /// Reads one datagram, if one came, and lets it be answered.
@@ -543,14 +565,14 @@ impl<S: Stream + Drop> Edge<S> {
             → StalledAreGone now (connections_of self.old) (connections_of self.new) }
         ensures rested { (second : ℕ) → rested_of self.new ≡ Some second → second ≡ now }
     {
-        notes.note(Note::Begins(now));
+        notes.begin_turn(now);
         let mut turn = Turn {
             network,
             primary,
             notes: &mut *notes,
         };
         let is_done = self.work(alloc, &mut turn, now);
-        notes.note(Note::Ends);
+        notes.end_turn();
         is_done
     }
 }

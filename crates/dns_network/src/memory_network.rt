@@ -94,6 +94,10 @@ impl Network<MemoryStream> for MemoryNetwork {
 
     ghost keeps_still = { λ _. ⊥ };
 
+    fn may_accept(&self) -> bool {
+        !self.streams.is_empty()
+    }
+
     fn accept(&mut self) -> Option<(MemoryStream, Peer)> {
         if self.streams.is_empty() {
             return None;

@@ -1,11 +1,12 @@
 //! The network as turns need it, and what they report.
-ghost use Rattle.std.specs.Prelude.{◌≤◌, ℕ, List, Option, length, take, IfSome, IsTrue};
+ghost use Rattle.std.specs.Prelude.{◌≡◌, ◌≤◌, ℕ, List, Option, None, false, length, take, IfSome, IsTrue};
 ghost use Rattle.std.specs.Option.{option_map};
 ghost use Rattle.dns_primary.specs.declared.event.Effects.{Effects as StatedEffects};
 ghost use Rattle.dns_primary.specs.declared.event.Peer.{Peer as StatedPeer};
 ghost use Rattle.dns_primary.specs.Step.{Event as StatedEvent};
 ghost use Rattle.dns_primary.specs.Steps.{event_shown};
 ghost use Rattle.dns_network.specs.declared.network.Note.{Note as StatedNote};
+ghost use Rattle.dns_network.specs.declared.network.Note.TheVariants.{Begins, Ends};
 
 use dns_primary::{Effects, Event, Peer};
 
@@ -29,6 +30,11 @@ pub trait Network<S> {
 
     /// Until it looks or waits again, no call of a stream moves an octet.
     ghost keeps_still: { Self → Type 0 };
+
+    /// Whether a peer may have made a connection. If not, it would answer that none had, and go on as it is. It
+    /// is asked in every turn.
+    fn may_accept(&self) -> bool
+        ensures { result ≡ false → accepts self.now None self.now };
 
     /// The next connection that a peer made: its stream, and the peer.
     fn accept(&mut self) -> Option<(S, Peer)>
@@ -102,6 +108,20 @@ pub trait Observer {
     /// Takes a note.
     fn note(&mut self, note: Note)
         ensures { takes self.old note self.new };
+
+    /// Takes the note that a turn begins, in this second of the clock.
+    fn begin_turn(&mut self, now: u64)
+        ensures { takes self.old (Begins now) self.new }
+    {
+        self.note(Note::Begins(now));
+    }
+
+    /// Takes the note that a turn ends.
+    fn end_turn(&mut self)
+        ensures { takes self.old Ends self.new }
+    {
+        self.note(Note::Ends);
+    }
 
     /// Observes an event that the primary has taken, before its effects are delivered: a datagram or a
     /// message that came, a pump of a transfer, or a flush. Of a connection that comes or ends there is a

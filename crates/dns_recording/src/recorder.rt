@@ -207,7 +207,6 @@ impl<W: Write, L: Observer> Observer for Recorder<'_, W, L> {
         × IsRecorded L.Observer (OfEvent event effects) (recording_of W.contents old)
         (recording_of W.contents new) old.notes.now new.notes.now };
 
-    /// If it doesn't record, that costs one test.
     #[inline]
     fn note(&mut self, note: Note) {
         if !self.is_on {
@@ -219,7 +218,29 @@ impl<W: Write, L: Observer> Observer for Recorder<'_, W, L> {
     }
 
     /// If it doesn't record, that costs one test.
-    #[inline]
+    #[inline(always)]
+    fn begin_turn(&mut self, now: u64) {
+        if !self.is_on {
+            self.notes.begin_turn(now);
+            return;
+        }
+        self.record_note(Note::Begins(now));
+        self.notes.begin_turn(now);
+    }
+
+    /// If it doesn't record, that costs one test.
+    #[inline(always)]
+    fn end_turn(&mut self) {
+        if !self.is_on {
+            self.notes.end_turn();
+            return;
+        }
+        self.record_note(Note::Ends);
+        self.notes.end_turn();
+    }
+
+    /// If it doesn't record, that costs one test.
+    #[inline(always)]
     fn observe(&mut self, event: Event<'_>, effects: &Effects) {
         if !self.is_on {
             self.notes.observe(event, effects);

@@ -3,6 +3,7 @@ mod Headers
 mod InTurns
 pub mod Known
 pub mod Logged
+mod Noted
 mod Observed
 pub mod Recorded
 pub mod Said

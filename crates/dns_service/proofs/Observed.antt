@@ -16,7 +16,7 @@ use Rattle.dns_service.proofs.Logged.{says_written}
 use Rattle.dns_service.proofs.Said.{said_more, said_none}
 
 -- Nothing is said.
-nothing_said : (log : Logged) → IsSaid (record { text = []; known = log.known }) log log
+pub nothing_said : (log : Logged) → IsSaid (record { text = []; known = log.known }) log log
 nothing_said log = record { text = said_none log.written log.lines; known = refl }
 
 pub quiet_said : (quiet : Bool) (origins : List Labels) (log : Logged) (event : Event) (effects : Effects) → quiet ≡ true

@@ -4,12 +4,11 @@ ghost use Rattle.std.specs.Io.KnownBytes.{Appends};
 ghost use Rattle.dns_names.specs.Name.{Labels};
 ghost use Rattle.dns_primary.specs.Steps.{event_shown};
 ghost use Rattle.dns_network.specs.Notes.{OfEvent, OfNote};
+ghost use Rattle.dns_network.specs.declared.network.Note.TheVariants.{Begins};
 ghost use Rattle.dns_service.specs.Counting.{counting_after};
 ghost use Rattle.dns_service.specs.Log.{HasAddedEvent, HasAddedNote, HasSaidEvent, IsAdded, IsLogged, Known};
 ghost use Rattle.dns_service.specs.Log.{addresses_after, closed_line, count_line, logged_by, opened_line};
 ghost use Rattle.dns_service.specs.Log.{observation_said, said_of, summary, transfers_noted};
-ghost use Rattle.dns_service.specs.declared.transfer_lines.Transfer.{Transfer as StatedTransfer};
-ghost use Rattle.std.specs.declared.net.ip_addr.IpAddr.{IpAddr as StatedAddress};
 ghost use Rattle.dns_service.specs.Verdict.{by_verdict, line_verdict, none_in};
 
 use crate::slots::set;
@@ -194,6 +193,14 @@ pub(crate) struct Log<'a, E: Write> {
 }
 
 impl<E: Write> Log<'_, E> {
+    /// Whether no line is left to write.
+    #[inline(always)]
+    fn has_no_line(&self) -> bool
+        ensures { result ≡ true → self.now.lines.now.items ≡ [] }
+    {
+        self.lines.is_empty()
+    }
+
     /// Whether all that was to be written is.
     pub(crate) fn is_written(&self) -> bool
         ensures whole { result ≡ true → self.now.has_failed ≡ false }
@@ -202,7 +209,7 @@ impl<E: Write> Log<'_, E> {
         if self.has_failed {
             return false;
         }
-        self.lines.is_empty()
+        self.has_no_line()
     }
 
     /// Writes what is still to be written.
@@ -225,6 +232,7 @@ impl<E: Write> Log<'_, E> {
     }
 
     /// Takes a note of which lines are to be written when the turn ends, or none.
+    #[inline(never)]
     fn take(&mut self, note: Note)
         ensures same_reference { self.new.err.ghost_name ≡ self.old.err.ghost_name }
         ensures counting { self.new.counting ≡ self.old.counting }
@@ -296,6 +304,7 @@ impl<E: Write> Log<'_, E> {
     }
 
     /// Writes what is still to be written, or notes that it can't.
+    #[inline(never)]
     fn settle(&mut self)
         ensures same_reference { self.new.err.ghost_name ≡ self.old.err.ghost_name }
         ensures counting { self.new.counting ≡ self.old.counting }
@@ -346,20 +355,13 @@ impl<E: Write> Log<'_, E> {
     }
 }
 
-/// Whether nothing is to be said of a note: a turn begins in the second of the turn before.
-#[inline]
-fn is_silent(counts: Counts, note: Note) -> bool
-    ensures said { result ≡ true
-        → (quiet : Bool) (origins : List Labels) → said_of quiet origins counts note ≡ ([], counts) }
-    ensures addresses { result ≡ true
-        → (addresses : List (Option StatedAddress)) → addresses_after note addresses ≡ addresses }
-    ensures transfers { result ≡ true
-        → (transfers : List (Option StatedTransfer)) → transfers_noted note transfers ≡ transfers }
+/// Whether nothing is to be said of a turn that begins in this second: it is that of the turn before.
+#[inline(always)]
+fn is_same_second(counts: Counts, now: u64) -> bool
+    ensures { result ≡ true → (quiet : Bool) (origins : List Labels)
+        → said_of quiet origins counts (Begins now) ≡ ([], counts) }
 {
-    match note {
-        Note::Begins(now) => now == counts.second,
-        _ => false,
-    }
+    now == counts.second
 }
 
 impl<E: Write> Observer for Log<'_, E> {
@@ -378,27 +380,40 @@ impl<E: Write> Observer for Log<'_, E> {
         × IsLogged old.is_quiet old.origins.now (OfEvent event effects) old.has_failed new.has_failed
         (logged_by E.contents old) (logged_by E.contents new) };
 
-    /// A turn in which nothing is said costs two comparisons.
-    #[inline]
     fn note(&mut self, note: Note) {
-        self.counting.note(note);
-        self.diagnostics.note(note);
-        if let Note::Ends = note {
-            if !self.lines.is_empty() {
-                if let Err(_) = self.write_out() {
-                    self.has_failed = true;
-                }
+        match note {
+            Note::Begins(now) => self.begin_turn(now),
+            Note::Ends => self.end_turn(),
+            _ => {
+                self.counting.note(note);
+                self.diagnostics.note(note);
+                self.take(note);
             }
+        }
+    }
+
+    /// In the second of the turn before, that costs one comparison, and a test of diagnostic lines.
+    #[inline(always)]
+    fn begin_turn(&mut self, now: u64) {
+        self.diagnostics.note(Note::Begins(now));
+        if is_same_second(self.counts, now) {
             return;
         }
-        if is_silent(self.counts, note) {
+        self.take(Note::Begins(now));
+    }
+
+    /// If no line is left to write, that costs one test, and a test of diagnostic lines.
+    #[inline(always)]
+    fn end_turn(&mut self) {
+        self.diagnostics.note(Note::Ends);
+        if self.has_no_line() {
             return;
         }
-        self.take(note);
+        self.settle();
     }
 
     /// An event of which nothing is said, as a query that is answered, costs some comparisons.
-    #[inline]
+    #[inline(always)]
     fn observe(&mut self, event: Event<'_>, effects: &Effects) {
         self.counting.observe(event, effects);
         self.diagnostics.observe(self.origins, event, effects);

@@ -1,5 +1,5 @@
 -- The sockets on which peers connect, one on each address.
-use Rattle.std.specs.Prelude.{◌≡◌, ◌∷◌, [], ℕ, nat_eq, List, Option, Some, None, if◌then◌else◌, length}
+use Rattle.std.specs.Prelude.{◌≡◌, ◌∷◌, [], ℕ, Bool, nat_eq, List, Option, Some, None, if◌then◌else◌, length}
 use Rattle.std.specs.Prelude.{slice_get}
 use Rattle.std.specs.List.{AllZip}
 use Rattle.std.specs.declared.net.socket_addr.SocketAddr.{SocketAddr}
@@ -23,6 +23,10 @@ module _ {T : Type 0} where
 
 abbrev pub listeners_of : {L : Type 0} → Listeners L → List (Listener L)
 listeners_of all = all.listeners.items
+
+-- A peer may have connected to a listener: since its last event no call found that none had.
+abbrev pub may_connect : {L : Type 0} → Listener L → Bool
+may_connect listener = listener.may_accept
 
 module _ {L T : Type 0} where
   -- These connections came to a listener on the address with this index, and no other.

@@ -1,6 +1,7 @@
 //! The sockets on which peers connect, one on each address of the server.
 ghost use Rattle.std.specs.Prelude.{◌≡◌, ◌∷◌, [], MatchOption, None, Some, OnErr, OnOk, length, suc};
-ghost use Rattle.dns_sockets.specs.Listeners.{HaveAccepted, HaveConnected, listeners_of};
+ghost use Rattle.std.specs.List.{list_any};
+ghost use Rattle.dns_sockets.specs.Listeners.{HaveAccepted, HaveConnected, listeners_of, may_connect};
 
 use crate::datagram_sockets::following;
 use crate::peers::peer_of;
@@ -82,6 +83,14 @@ impl<L: Drop> Listeners<L> {
             }
             None => false,
         }
+    }
+
+    /// Whether a connection may be waiting at one of them.
+    #[inline(always)]
+    pub(crate) fn may_accept(&self) -> bool
+        ensures { result ≡ list_any may_connect (listeners_of self.now) }
+    {
+        self.listeners.iter().any(|listener| listener.may_accept)
     }
 
     /// The next connection that came to the listener with this index, and its peer.

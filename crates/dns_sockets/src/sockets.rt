@@ -1,7 +1,9 @@
 //! The sockets of a server. None of their calls waits but `wait`, which waits until one of them is ready.
-ghost use Rattle.std.specs.Prelude.{◌≡◌, ◌∷◌, [], IfOk};
+ghost use Rattle.std.specs.Prelude.{◌≡◌, ◌∷◌, [], IfOk, None, false};
+ghost use Rattle.std.specs.List.{list_any};
 ghost use Rattle.dns_sockets.specs.DatagramSockets.{AreInOrder, HaveBrought, HaveCarried};
-ghost use Rattle.dns_sockets.specs.Sockets.{HasAccepted, IsWatched, datagrams_of};
+ghost use Rattle.dns_sockets.specs.Listeners.{may_connect};
+ghost use Rattle.dns_sockets.specs.Sockets.{HasAccepted, IsWatched, connects_of, datagrams_of};
 
 use crate::datagram_sockets::DatagramSockets;
 use crate::listeners::Listeners;
@@ -129,6 +131,15 @@ impl<C: DatagramCalls + Drop, L: ListenerCalls<T> + Drop, T: StreamCalls + Drop>
         HaveCarried C.DatagramCalls [] [] (datagrams_of old) (datagrams_of new) };
 
     ghost keeps_still = { λ _. Unit {0} };
+
+    /// Whether some listener was woken by an event, and has not said since that it would wait.
+    #[inline(always)]
+    fn may_accept(&self) -> bool
+        ensures none { result ≡ false → HasAccepted L.ListenerCalls self.now None self.now }
+        ensures ready { result ≡ list_any may_connect (connects_of self.now) }
+    {
+        self.listeners.may_accept()
+    }
 
     fn accept(&mut self) -> Option<(Socket<T>, Peer)> {
         let slot = Place::new(self.readiness.clone().ok()?);

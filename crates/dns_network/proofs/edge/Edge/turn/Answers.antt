@@ -9,11 +9,11 @@ returns-clause-turn g c =
     let (moments, done, idle) = c.work-is_done.ensures.done in
     let (network, primary, notes) = c.work-is_done.ensures.same in
     let old = served c.args.primary.now c.args.self.now c.args.network.now c.args.notes.now in
-    let begun = served c.args.primary.now c.args.self.now c.args.network.now c.note.new.self in
+    let begun = served c.args.primary.now c.args.self.now c.args.network.now c.begin_turn.new.self in
     let made = c.work-is_done.new.turn in (
       moments,
-      is_turn g.S.Stream g.N.Network g.L.Observer c.args.now (rested_of c.args.self.now) moments old begun made.primary.now _ made.network.now _ made.notes.now _ c.note-2.new.self
-          (connections_of c.work-is_done.new.self) (search rules) (search rules) (search rules) (record { rest = refl; noted = c.note.ensures }) done c.note-2.ensures,
+      is_turn g.S.Stream g.N.Network g.L.Observer c.args.now (rested_of c.args.self.now) moments old begun made.primary.now _ made.network.now _ made.notes.now _ c.end_turn.new.self
+          (connections_of c.work-is_done.new.self) (search rules) (search rules) (search rules) (record { rest = refl; noted = c.begin_turn.ensures }) done c.end_turn.ensures,
       idle,
     )
 

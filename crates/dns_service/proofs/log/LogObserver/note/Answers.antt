@@ -6,8 +6,8 @@ use Rattle.dns_service.specs.Log.{said_of}
 use Rattle.dns_service.proofs.Said.{said_more}
 use Rattle.dns_service.proofs.log.LogObserver.note.Goals as goal
 
-pub returns : goal.returns
-returns g c =
+pub returns-in_default : goal.returns-in_default
+returns-in_default g c =
     let text = g.E.Write.contents in
     let old = c.args.self.now in
     let new = c.take.new.self in
