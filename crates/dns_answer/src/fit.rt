@@ -16,9 +16,11 @@ use dns_wire::limits::{MOST_BY_TCP, MOST_BY_UDP};
 use dns_wire::{Rcode, Reply, ReplyRecord, WriteError, Writer, one_compressed_text};
 use std::alloc::AllocError;
 
-/// The text of the reply, if it has at most so many octets.
+/// The text of the reply, if it has at most so many octets. It takes the memory of the spare octets, as each
+/// of the functions below does.
 fn text_within(
     alloc: Heap,
+    spare: &mut Vec<u8, Heap>,
     reply: &Reply<'_, '_>,
     limit: usize,
 ) -> Result<Option<Vec<u8, Heap>>, AllocError>
@@ -27,7 +29,7 @@ fn text_within(
         (λ fits. MatchOption fits (limit < length (text (stated reply.now)))
         (λ octets. (octets.items ≡ text (stated reply.now)) × (length octets.items ≤ limit))) }
 {
-    match Writer::write(alloc, reply, limit) {
+    match Writer::write_over(alloc, spare, reply, limit) {
         Ok(octets) => Ok(Some(octets)),
         Err(WriteError::DoesNotFit) => Ok(None),
         Err(WriteError::OutOfMemory) => Err(AllocError),
@@ -35,11 +37,15 @@ fn text_within(
 }
 
 /// The text of a reply that fits any transport.
-fn short_text(alloc: Heap, reply: &Reply<'_, '_>) -> Result<Vec<u8, Heap>, AllocError>
+fn short_text(
+    alloc: Heap,
+    spare: &mut Vec<u8, Heap>,
+    reply: &Reply<'_, '_>,
+) -> Result<Vec<u8, Heap>, AllocError>
     requires { length (text (stated reply.now)) < 65536 }
     ensures { IfOk result (λ octets. octets.items ≡ text (stated reply.now)) }
 {
-    match text_within(alloc, reply, MOST_BY_TCP)? {
+    match text_within(alloc, spare, reply, MOST_BY_TCP)? {
         Some(octets) => Ok(octets),
         None => unreachable!(),
     }
@@ -60,7 +66,11 @@ fn is_referral(reply: &Reply<'_, '_>) -> bool
 }
 
 /// The header and the question of a reply, with TC (RFC 1035 section 4.1.1).
-fn truncated(alloc: Heap, reply: &mut Reply<'_, '_>) -> Result<Vec<u8, Heap>, AllocError>
+fn truncated(
+    alloc: Heap,
+    spare: &mut Vec<u8, Heap>,
+    reply: &mut Reply<'_, '_>,
+) -> Result<Vec<u8, Heap>, AllocError>
     requires { length (question_octets (stated reply.old)) < 65524 }
     ensures { IfOk result (λ octets. octets.items ≡ truncated (stated reply.old)) }
 {
@@ -68,11 +78,15 @@ fn truncated(alloc: Heap, reply: &mut Reply<'_, '_>) -> Result<Vec<u8, Heap>, Al
     reply.answer = &[];
     reply.authority = &[];
     reply.additional = &[];
-    short_text(alloc, reply)
+    short_text(alloc, spare, reply)
 }
 
 /// SERVFAIL with the question of a reply.
-fn failed(alloc: Heap, reply: &mut Reply<'_, '_>) -> Result<Vec<u8, Heap>, AllocError>
+fn failed(
+    alloc: Heap,
+    spare: &mut Vec<u8, Heap>,
+    reply: &mut Reply<'_, '_>,
+) -> Result<Vec<u8, Heap>, AllocError>
     requires { length (question_octets (stated reply.old)) < 65524 }
     ensures { IfOk result (λ octets. octets.items ≡ failed (stated reply.old)) }
 {
@@ -81,13 +95,14 @@ fn failed(alloc: Heap, reply: &mut Reply<'_, '_>) -> Result<Vec<u8, Heap>, Alloc
     reply.answer = &[];
     reply.authority = &[];
     reply.additional = &[];
-    short_text(alloc, reply)
+    short_text(alloc, spare, reply)
 }
 
 /// A reply by UDP that doesn't fit whole: without its additional section, which is gone, unless it is a
 /// referral; else truncated.
 fn fit_without_additional(
     alloc: Heap,
+    spare: &mut Vec<u8, Heap>,
     reply: &mut Reply<'_, '_>,
 ) -> Result<Vec<u8, Heap>, AllocError>
     requires question { length (question_octets (stated reply.old)) < 65524 }
@@ -95,12 +110,12 @@ fn fit_without_additional(
     ensures { IfOk result (λ octets. octets.items ≡ by_udp_without_additional (stated reply.old)) }
 {
     if is_referral(reply) {
-        return truncated(alloc, reply);
+        return truncated(alloc, spare, reply);
     }
-    if let Some(less) = text_within(alloc, reply, MOST_BY_UDP)? {
+    if let Some(less) = text_within(alloc, spare, reply, MOST_BY_UDP)? {
         return Ok(less);
     }
-    truncated(alloc, reply)
+    truncated(alloc, spare, reply)
 }
 
 /// Takes the additional section from a reply.
@@ -111,31 +126,40 @@ fn leave_additional_out(reply: &mut Reply<'_, '_>)
 }
 
 /// A reply by UDP: whole, else without its additional section unless it is a referral, else truncated.
-fn fit_to_udp(alloc: Heap, reply: &mut Reply<'_, '_>) -> Result<Vec<u8, Heap>, AllocError>
+fn fit_to_udp(
+    alloc: Heap,
+    spare: &mut Vec<u8, Heap>,
+    reply: &mut Reply<'_, '_>,
+) -> Result<Vec<u8, Heap>, AllocError>
     requires { length (question_octets (stated reply.old)) < 65524 }
     ensures { IfOk result (λ octets. octets.items ≡ by_udp (stated reply.old)) }
 {
-    if let Some(whole) = text_within(alloc, reply, MOST_BY_UDP)? {
+    if let Some(whole) = text_within(alloc, spare, reply, MOST_BY_UDP)? {
         return Ok(whole);
     }
     leave_additional_out(reply);
-    fit_without_additional(alloc, reply)
+    fit_without_additional(alloc, spare, reply)
 }
 
 /// A reply by TCP: whole, else SERVFAIL with the question.
-fn fit_to_tcp(alloc: Heap, reply: &mut Reply<'_, '_>) -> Result<Vec<u8, Heap>, AllocError>
+fn fit_to_tcp(
+    alloc: Heap,
+    spare: &mut Vec<u8, Heap>,
+    reply: &mut Reply<'_, '_>,
+) -> Result<Vec<u8, Heap>, AllocError>
     requires { length (question_octets (stated reply.old)) < 65524 }
     ensures { IfOk result (λ octets. octets.items ≡ by_tcp (stated reply.old)) }
 {
-    if let Some(whole) = text_within(alloc, reply, MOST_BY_TCP)? {
+    if let Some(whole) = text_within(alloc, spare, reply, MOST_BY_TCP)? {
         return Ok(whole);
     }
-    failed(alloc, reply)
+    failed(alloc, spare, reply)
 }
 
 /// The text of a reply that goes out by the transport. What can't go out is taken from the reply.
 pub(crate) fn fit(
     alloc: Heap,
+    spare: &mut Vec<u8, Heap>,
     reply: &mut Reply<'_, '_>,
     transport: Transport,
 ) -> Result<Vec<u8, Heap>, AllocError>
@@ -143,8 +167,8 @@ pub(crate) fn fit(
     ensures { IfOk result (λ octets. octets.items ≡ fitted transport (stated reply.old)) }
 {
     match transport {
-        Transport::Udp => fit_to_udp(alloc, reply),
-        Transport::Tcp => fit_to_tcp(alloc, reply),
+        Transport::Udp => fit_to_udp(alloc, spare, reply),
+        Transport::Tcp => fit_to_tcp(alloc, spare, reply),
     }
 }
 
@@ -162,6 +186,7 @@ pub(crate) fn most_records(transport: Transport) -> u16
 /// here.
 pub(crate) fn fit_first_sections(
     alloc: Heap,
+    spare: &mut Vec<u8, Heap>,
     reply: &mut Reply<'_, '_>,
     transport: Transport,
 ) -> Result<Vec<u8, Heap>, AllocError>
@@ -175,8 +200,8 @@ pub(crate) fn fit_first_sections(
 {
     one_compressed_text();
     match transport {
-        Transport::Udp => fit_without_additional(alloc, reply),
-        Transport::Tcp => failed(alloc, reply),
+        Transport::Udp => fit_without_additional(alloc, spare, reply),
+        Transport::Tcp => failed(alloc, spare, reply),
     }
 }
 
@@ -184,6 +209,7 @@ pub(crate) fn fit_first_sections(
 /// left out here.
 pub(crate) fn fit_question(
     alloc: Heap,
+    spare: &mut Vec<u8, Heap>,
     reply: &mut Reply<'_, '_>,
     transport: Transport,
 ) -> Result<Vec<u8, Heap>, AllocError>
@@ -196,7 +222,7 @@ pub(crate) fn fit_question(
 {
     one_compressed_text();
     match transport {
-        Transport::Udp => truncated(alloc, reply),
-        Transport::Tcp => failed(alloc, reply),
+        Transport::Udp => truncated(alloc, spare, reply),
+        Transport::Tcp => failed(alloc, spare, reply),
     }
 }

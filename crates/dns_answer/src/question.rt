@@ -71,6 +71,7 @@ fn reply_with_question<'s, 'a>(
 /// built.
 fn reply_of_all_sections<'a, I: ZoneIndex>(
     alloc: Heap,
+    spare: &mut Vec<u8, Heap>,
     zones: &'a [Zone<I>],
     reply: Reply<'_, 'a>,
     transport: Transport,
@@ -85,7 +86,7 @@ fn reply_of_all_sections<'a, I: ZoneIndex>(
     let most = most_records(transport);
     if answer_count(found) > most as usize || server_count(found) > most as usize {
         let mut reply = reply;
-        return fit_question(alloc, &mut reply, transport);
+        return fit_question(alloc, spare, &mut reply, transport);
     }
     let sections = Sections::new(alloc, zones, found, most)?;
     let is_over = sections.has_more(most);
@@ -101,13 +102,13 @@ fn reply_of_all_sections<'a, I: ZoneIndex>(
         ..reply
     };
     if is_over {
-        return fit_first_sections(alloc, &mut first, transport);
+        return fit_first_sections(alloc, spare, &mut first, transport);
     }
     let mut whole = Reply {
         additional: additional.as_slice(),
         ..first
     };
-    fit(alloc, &mut whole, transport)
+    fit(alloc, spare, &mut whole, transport)
 }
 
 /// The reply to what a question finds, which has its question already. The shortest form is given.
@@ -129,7 +130,7 @@ fn reply_of_short<'a, I: ZoneIndex>(
         (λ octets. AreReplyWithSections (stated reply.entry) zones.now found.now transport octets.items) }
 {
     match short {
-        Short::All => reply_of_all_sections(alloc, zones, reply, transport, found),
+        Short::All => reply_of_all_sections(alloc, spare, zones, reply, transport, found),
         _ => {
             let sections = short.sections();
             let mut whole = Reply {
@@ -141,7 +142,7 @@ fn reply_of_short<'a, I: ZoneIndex>(
             if let Some(octets) = Writer::write_soa(alloc, spare, &whole)? {
                 return Ok(octets);
             }
-            fit(alloc, &mut whole, transport)
+            fit(alloc, spare, &mut whole, transport)
         }
     }
 }
@@ -187,6 +188,7 @@ fn reply_of_more<'a, I: ZoneIndex>(
 #[inline(never)]
 fn reply_of_none(
     alloc: Heap,
+    spare: &mut Vec<u8, Heap>,
     message: &Message<'_>,
     question: EchoedQuestion<'_>,
     transport: Transport,
@@ -199,7 +201,7 @@ fn reply_of_none(
 {
     let none = LentSections::none();
     let mut reply = reply_with_question(message, question, false, Rcode::Refused, none);
-    fit(alloc, &mut reply, transport)
+    fit(alloc, spare, &mut reply, transport)
 }
 
 /// The reply to a question whose name was searched, if one record answers it and is written in one piece.
@@ -242,7 +244,7 @@ fn answer<'a, I: ZoneIndex>(
     let message = &query.message;
     let qtype = query.question.qtype();
     let Some(first) = search(zones, question.name.reborrow(), qtype) else {
-        return reply_of_none(alloc, message, question, transport);
+        return reply_of_none(alloc, spare, message, question, transport);
     };
     if let Some(octets) = reply_of_one(alloc, spare, message, &question, &first)? {
         return Ok(octets);
@@ -271,8 +273,8 @@ fn reply_in_lower_case<I: ZoneIndex>(
 }
 
 /// The reply to a query, octet for octet as it is defined, with its question: what the lookup finds, or
-/// REFUSED where its name is under no held apex. A reply of one record, and most negative ones, take the
-/// memory of the spare octets, if they have room.
+/// REFUSED where its name is under no held apex. It takes the memory of the spare octets, if they have room,
+/// and leaves none of them.
 pub fn reply<I: ZoneIndex>(
     alloc: Heap,
     spare: &mut Vec<u8, Heap>,
@@ -311,5 +313,6 @@ pub fn refuse(
     let question = echoed(octets, name.lend());
     let none = LentSections::none();
     let mut reply = reply_with_question(&query.message, question, false, rcode, none);
-    fit(alloc, &mut reply, transport)
+    let mut spare = Vec::new(alloc);
+    fit(alloc, &mut spare, &mut reply, transport)
 }

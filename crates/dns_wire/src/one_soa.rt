@@ -129,8 +129,9 @@ impl Octets {
         requires short { length parts.now.first.now + length parts.now.second.now ≤ 512 }
         requires numbers { length parts.now.numbers.now ≡ 20 }
         ensures { OnOk result (self.new.items
-            ≡ (let rdata = soa_data parts.now.offset parts.now.first.now parts.now.second.now parts.now.numbers.now in
-            self.old.items ++ (soa_head parts.now.offset ttl (length rdata) ++ rdata))) }
+            ≡ (let soa = parts.now in
+            let rdata = soa_data soa.offset soa.first.now soa.second.now soa.numbers.now in
+            self.old.items ++ (soa_head soa.offset ttl (length rdata) ++ rdata))) }
     {
         let (first, second, numbers) = (parts.first, parts.second, parts.numbers);
         let size = first.len() + second.len() + NUMBERS + 4;
@@ -146,9 +147,9 @@ impl Octets {
 
 impl Writer {
     /// The one compressed text of a reply with a question and a SOA in the authority section alone, if it is
-    /// written in one piece: the owner of the SOA ends the question's name and, after one label, the two names
-    /// of its data, which are different and do not end the question's name, and there is room in 512 octets. It
-    /// takes the memory of the spare octets, if they have room, and leaves none of them.
+    /// written in one piece: the owner of the SOA ends the question's name and, after one label, the two
+    /// names of its data, which are different and do not end the question's name, and there is room in 512
+    /// octets. It takes the memory of the spare octets, if they have room, and leaves none of them.
     #[inline(always)]
     pub fn write_soa<'a>(
         alloc: Heap,

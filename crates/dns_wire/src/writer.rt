@@ -121,7 +121,29 @@ impl Writer {
     /// The one compressed text of a reply (RFC 1035 section 4.1), if it has at most so many octets: a
     /// datagram takes 512, and the length before a message on a stream is at most 65,535 (RFC 1035
     /// section 4.2). It refuses with `DoesNotFit` where the text is longer, and with `OutOfMemory` where
-    /// memory is wanting.
+    /// memory is wanting. It takes the memory of the spare octets, if they have room, and leaves none of
+    /// them.
+    pub fn write_over(
+        alloc: Heap,
+        spare: &mut Vec<u8, Heap>,
+        reply: &Reply<'_, '_>,
+        limit: usize,
+    ) -> Result<Vec<u8, Heap>, WriteError>
+        requires { limit < 65536 }
+        ensures found { IfOk result
+            (λ octets. (octets.items ≡ text (stated reply.now)) × (length octets.items ≤ limit)) }
+        ensures refused { IfErr result (RefusesUpTo limit (length (text (stated reply.now)))) }
+    {
+        let mut compressor = Compressor {
+            octets: Octets::over(alloc, spare, FEW_OCTETS)?,
+            places: Places::new(alloc, FEW_PLACES),
+            limit,
+        };
+        compressor.put_reply(reply)?;
+        Ok(compressor.octets.into_vec())
+    }
+
+    /// The one compressed text of a reply, as `write_over` gives it, in memory of its own.
     pub fn write(
         alloc: Heap,
         reply: &Reply<'_, '_>,
@@ -132,13 +154,8 @@ impl Writer {
             (λ octets. (octets.items ≡ text (stated reply.now)) × (length octets.items ≤ limit)) }
         ensures refused { IfErr result (RefusesUpTo limit (length (text (stated reply.now)))) }
     {
-        let mut compressor = Compressor {
-            octets: Octets::with_room(alloc, FEW_OCTETS)?,
-            places: Places::new(alloc, FEW_PLACES),
-            limit,
-        };
-        compressor.put_reply(reply)?;
-        Ok(compressor.octets.into_vec())
+        let mut spare = Vec::new(alloc);
+        Writer::write_over(alloc, &mut spare, reply, limit)
     }
 }
 
