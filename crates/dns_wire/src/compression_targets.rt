@@ -236,6 +236,20 @@ fn reach(linked: &mut Vec<Linked<'_>, Heap>, heads: &mut Vec<usize, Heap>) -> Re
     Ok(())
 }
 
+/// Puts a target after the others. Most often there is room for it, and it takes no call.
+#[inline(always)]
+fn put_last<'a>(linked: &mut Vec<Linked<'a>, Heap>, one: Linked<'a>) -> Result<(), AllocError>
+    ensures kept { OnOk result (linked.new.items ≡ linked.old.items ++ one.entry ∷ []) }
+    ensures refused { OnErr result (linked.new.items ≡ linked.old.items) }
+{
+    if linked.len() < linked.capacity() {
+        linked.push_reserved(one);
+        return Ok(());
+    }
+    linked.push(one)?;
+    Ok(())
+}
+
 /// Where a suffix with this number occurs, among the targets of a table.
 #[inline(always)]
 fn linked_place(linked: &[Linked<'_>], heads: &[usize], number: u64, suffix: &[u8]) -> Option<usize>
@@ -315,11 +329,12 @@ impl<'a> Table<'a> {
         let head = head_of(number);
         let target = Target { offset, suffix };
         let next = self.heads[head];
-        self.linked.push(Linked {
+        let one = Linked {
             target,
             number,
             next,
-        })?;
+        };
+        put_last(&mut self.linked, one)?;
         self.heads[head] = self.linked.len();
         Ok(())
     }
