@@ -8,7 +8,7 @@ ghost use Rattle.dns_wire.specs.Puts.{RefusesUpTo, Wrote};
 ghost use Rattle.dns_wire.specs.Reply.{stated};
 ghost use Rattle.dns_wire.specs.Text.{text};
 
-use crate::compression_targets::Places;
+use crate::compression_targets::{Places, put_last};
 use crate::compressor::Compressor;
 use crate::octets::Octets;
 use crate::writer::header;
@@ -181,7 +181,7 @@ impl<'a> MessageBuilder<'a> {
             so_far.compressor.octets.truncate(end);
             return Ok(Pushed::Full(octets_of(Box::into_inner(contents))));
         }
-        so_far.answer.push(one)?;
+        put_last(&mut so_far.answer, one)?;
         Ok(Pushed::Open(MessageBuilder { contents }))
     }
 

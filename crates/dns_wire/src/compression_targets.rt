@@ -11,7 +11,7 @@ use arrayvec::ArrayVec;
 use byteorder::{ByteOrder, LittleEndian};
 use dns_memory::Heap;
 use dns_names::same_octets;
-use std::alloc::AllocError;
+use std::alloc::{AllocError, Allocator};
 use std::marker::Model;
 
 /// How many targets are kept in place, and take no memory.
@@ -236,17 +236,17 @@ fn reach(linked: &mut Vec<Linked<'_>, Heap>, heads: &mut Vec<usize, Heap>) -> Re
     Ok(())
 }
 
-/// Puts a target after the others. Most often there is room for it, and it takes no call.
+/// Puts one more after the others. Most often there is room for it, and it takes no call.
 #[inline(always)]
-fn put_last<'a>(linked: &mut Vec<Linked<'a>, Heap>, one: Linked<'a>) -> Result<(), AllocError>
-    ensures kept { OnOk result (linked.new.items ≡ linked.old.items ++ one.entry ∷ []) }
-    ensures refused { OnErr result (linked.new.items ≡ linked.old.items) }
+pub(crate) fn put_last<T: Drop, A: Allocator>(all: &mut Vec<T, A>, one: T) -> Result<(), AllocError>
+    ensures kept { OnOk result (all.new.items ≡ all.old.items ++ one ∷ []) }
+    ensures refused { OnErr result (all.new.items ≡ all.old.items) }
 {
-    if linked.len() < linked.capacity() {
-        linked.push_reserved(one);
+    if all.len() < all.capacity() {
+        all.push_reserved(one);
         return Ok(());
     }
-    linked.push(one)?;
+    all.push(one)?;
     Ok(())
 }
 
