@@ -8,7 +8,7 @@ ghost use Rattle.dns_wire.specs.Puts.{RefusesUpTo, Wrote};
 ghost use Rattle.dns_wire.specs.Reply.{stated};
 ghost use Rattle.dns_wire.specs.Text.{text};
 
-use crate::compression_targets::Places;
+use crate::compression_targets::{Places, put_last};
 use crate::compressor::Compressor;
 use crate::octets::Octets;
 use crate::writer::header;
@@ -70,7 +70,8 @@ pub enum Pushed<'a> {
     Full(Vec<u8, Heap>),
 }
 
-/// Writes a record after octets of a message: whatever the record, there is room for it.
+/// Writes a record after octets of a message: whatever the record, there is room for it. The owners of a
+/// transfer are most often new, so that none is looked for before its labels are written.
 fn put_any<'a>(compressor: &mut Compressor<'a>, one: &ReplyRecord<'a>) -> Result<(), AllocError>
     requires low { length compressor.old.octets.items ≤ 16384 }
     requires room { compressor.old.limit ≡ 65535 }
@@ -80,7 +81,7 @@ fn put_any<'a>(compressor: &mut Compressor<'a>, one: &ReplyRecord<'a>) -> Result
         (compressed_record compressor.old.places (length compressor.old.octets.items) one.now)) }
 {
     let _data = one.rdata();
-    match compressor.put_record(one) {
+    match compressor.put_by_labels(one) {
         Ok(()) => Ok(()),
         Err(WriteError::OutOfMemory) => Err(AllocError),
         Err(WriteError::DoesNotFit) => unreachable!(),
@@ -180,7 +181,7 @@ impl<'a> MessageBuilder<'a> {
             so_far.compressor.octets.truncate(end);
             return Ok(Pushed::Full(octets_of(Box::into_inner(contents))));
         }
-        so_far.answer.push(one)?;
+        put_last(&mut so_far.answer, one)?;
         Ok(Pushed::Open(MessageBuilder { contents }))
     }
 

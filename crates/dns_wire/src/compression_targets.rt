@@ -11,7 +11,7 @@ use arrayvec::ArrayVec;
 use byteorder::{ByteOrder, LittleEndian};
 use dns_memory::Heap;
 use dns_names::same_octets;
-use std::alloc::AllocError;
+use std::alloc::{AllocError, Allocator};
 use std::marker::Model;
 
 /// How many targets are kept in place, and take no memory.
@@ -236,6 +236,20 @@ fn reach(linked: &mut Vec<Linked<'_>, Heap>, heads: &mut Vec<usize, Heap>) -> Re
     Ok(())
 }
 
+/// Puts one more after the others. Most often there is room for it, and it takes no call.
+#[inline(always)]
+pub(crate) fn put_last<T: Drop, A: Allocator>(all: &mut Vec<T, A>, one: T) -> Result<(), AllocError>
+    ensures kept { OnOk result (all.new.items ≡ all.old.items ++ one ∷ []) }
+    ensures refused { OnErr result (all.new.items ≡ all.old.items) }
+{
+    if all.len() < all.capacity() {
+        all.push_reserved(one);
+        return Ok(());
+    }
+    all.push(one)?;
+    Ok(())
+}
+
 /// Where a suffix with this number occurs, among the targets of a table.
 #[inline(always)]
 fn linked_place(linked: &[Linked<'_>], heads: &[usize], number: u64, suffix: &[u8]) -> Option<usize>
@@ -315,11 +329,12 @@ impl<'a> Table<'a> {
         let head = head_of(number);
         let target = Target { offset, suffix };
         let next = self.heads[head];
-        self.linked.push(Linked {
+        let one = Linked {
             target,
             number,
             next,
-        })?;
+        };
+        put_last(&mut self.linked, one)?;
         self.heads[head] = self.linked.len();
         Ok(())
     }

@@ -239,7 +239,7 @@ impl<'a> Compressor<'a> {
 
     /// Writes a record, the labels of its owner first.
     #[inline(always)]
-    fn put_by_labels(&mut self, one: &ReplyRecord<'a>) -> Result<(), WriteError>
+    pub(crate) fn put_by_labels(&mut self, one: &ReplyRecord<'a>) -> Result<(), WriteError>
         requires room { length self.old.octets.items ≤ self.old.limit }
         requires small { self.old.limit < 65536 }
         ensures written { OnOk result

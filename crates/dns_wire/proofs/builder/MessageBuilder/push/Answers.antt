@@ -38,6 +38,6 @@ invariant_of-result c =
     let now = c.put_any.new.compressor in
     let fits : length now.octets.items ≤ v.limit = omega (arith, c.len.ensures, c.if-len-so_far.false) in
     let next = built_next b k.octets.items now.octets.items k.places now.places c.args.one stands w.octets w.places fits in (
-      subst (λ (xs : List Record). StandsBuilt (record b { reply = record b.reply { answer = xs } }) now.octets.items now.places) (sym c.in_ok-push.ensures.items) next,
+      subst (λ (xs : List Record). StandsBuilt (record b { reply = record b.reply { answer = xs } }) now.octets.items now.places) (sym c.in_ok-put_last.ensures.kept) next,
       w.same ∙ room,
     )

@@ -19,7 +19,7 @@ invariant_of-self-2 c =
     let none : None ≡ offset_at (linked_places linked) name = c.requires.new ∙ ap (λ (ps : List Place). offset_at ps name) (sym c.self.view_is) in
     let table = table_heads linked c.self.inside.heads.items heads c.reach.ensures.same c.self.invariant in
     let grown = table_more linked heads one head own inside link none table in
-    let items : c.push.new.self.items ≡ linked ++ one ∷ [] = c.in_ok-push.ensures.items ∙ ap (λ (ls : List Linked). ls ++ one ∷ []) c.reach.ensures.linked in
+    let items : c.put_last.new.all.items ≡ linked ++ one ∷ [] = c.in_ok-put_last.ensures.kept ∙ ap (λ (ls : List Linked). ls ++ one ∷ []) c.reach.ensures.linked in
     let size : c.len.result ≡ length linked + 1 = omega (arith, c.len.ensures, ap length items, length-append linked (one ∷ [])) in
     subst (λ (ls : List Linked). IsTable ls (set heads head c.len.result)) (sym items)
     (subst (λ (n : ℕ). IsTable (linked ++ one ∷ []) (set heads head n)) (sym size) grown)
