@@ -15,15 +15,12 @@ ghost use Rattle.dns_wire.specs.Compressed.{IsCompressed, and_written};
 use crate::compression_targets::Places;
 use crate::compressor::Compressor;
 use crate::fields::two_octets;
-use crate::octets::Octets;
+use crate::octets::{MOST, Octets};
 use crate::{EchoedQuestion, Reply, ReplyRecord, WriteError};
 use dns_memory::Heap;
 
 /// Few replies have more targets that pointers can name, after those of the question.
 const FEW_PLACES: usize = 12;
-
-/// Most replies have at most so many octets.
-const FEW_OCTETS: usize = 128;
 
 /// Writes messages.
 pub struct Writer;
@@ -135,7 +132,7 @@ impl Writer {
         ensures refused { IfErr result (RefusesUpTo limit (length (text (stated reply.now)))) }
     {
         let mut compressor = Compressor {
-            octets: Octets::over(alloc, spare, FEW_OCTETS)?,
+            octets: Octets::over(alloc, spare, MOST)?,
             places: Places::new(alloc, FEW_PLACES),
             limit,
         };
