@@ -1,8 +1,6 @@
 //! What a primary keeps.
 ghost use Rattle.std.specs.Prelude.{◌≡◌, ◌≤◌, ◌==◌, [], length, not, vec_capacity};
 ghost use Rattle.dns_primary.specs.Connections.{most_connections};
-ghost use Rattle.dns_primary.specs.Open.{count_of};
-ghost use Rattle.dns_primary.specs.Steps.{HasSameState};
 
 use crate::transfers::OpenTransfer;
 use crate::{HeaderTo, Peer, Waiting};
@@ -57,15 +55,5 @@ impl<I: ZoneIndex, S: ZoneStore> Primary<I, S> {
         ensures { result ≡ not (length self.now.waiting.items == 0) }
     {
         !self.waiting.is_empty()
-    }
-
-    /// Lends it octets that nobody reads any longer: the next short reply to a query is written in their
-    /// memory. What was lent before and not used is let go.
-    #[inline(always)]
-    pub fn lend(&mut self, spare: Vec<u8, Heap>)
-        ensures state { HasSameState self.old self.new }
-        ensures count { count_of self.new ≡ count_of self.old }
-    {
-        self.spare = spare;
     }
 }

@@ -6,7 +6,8 @@ ghost use Rattle.dns_primary.specs.To.{is_nowhere};
 ghost use Rattle.dns_primary.specs.Machine.{Machine, shown_zones};
 ghost use Rattle.dns_primary.specs.Step.{request_lacks};
 ghost use Rattle.dns_primary.specs.Keeps.{IsKept, HasConnection};
-ghost use Rattle.dns_primary.specs.Steps.{IsServedOrLacks, SteppedOn};
+ghost use Rattle.dns_primary.specs.Open.{count_of};
+ghost use Rattle.dns_primary.specs.Steps.{HasSameState, IsServedOrLacks, SteppedOn};
 
 use crate::update::UpdateRequest;
 use crate::{Effects, Peer, Primary, To};
@@ -26,6 +27,16 @@ pub(crate) fn header_octets<'a>(request: &RequestMessage<'a>) -> &'a [u8; 12]
 }
 
 impl<I: ZoneIndex, S: ZoneStore> Primary<I, S> {
+    /// Lends it octets that nobody reads any longer: the next short reply to a query is written in their
+    /// memory. What was lent before and not used is let go.
+    #[inline(always)]
+    pub fn lend(&mut self, spare: Vec<u8, Heap>)
+        ensures state { HasSameState self.old self.new }
+        ensures count { count_of self.new ≡ count_of self.old }
+    {
+        self.spare = spare;
+    }
+
     /// Does with octets that came from a peer what is to be done with them; their reply goes there.
     pub(crate) fn serve(
         &mut self,

@@ -58,13 +58,13 @@ returns-in-Query-clause-step g c old kept =
     let of : q.message.octets ≡ octets = c.in-Query.ensures.of in
     let zones : c.deref.result.now ≡ shown_zones old = c.deref.ensures.value ∙ are_shown g.S.ZoneStore.keeps c.args.self.now.zones.items c.args.self.now.pending.items old.zones kept.zones_are in
     let reply = fitted c.args.transport (answered (shown_zones old) octets q.message.message q.question) in
-    let shown = subst (λ (zs : List Zone). IfOk c.reply-in-Query.result (λ v. v.items ≡ fitted c.args.transport (answered zs q.message.octets q.message.message q.question))) zones c.reply-in-Query.ensures in
-    let is = subst (λ (xs : List ℕ). IfOk c.reply-in-Query.result (λ v. v.items ≡ fitted c.args.transport (answered (shown_zones old) xs q.message.message q.question))) of shown in
+    let shown = subst (λ (zs : List Zone). IfOk c.reply-octets.result (λ v. v.items ≡ fitted c.args.transport (answered zs q.message.octets q.message.message q.question))) zones c.reply-octets.ensures in
+    let is = subst (λ (xs : List ℕ). IfOk c.reply-octets.result (λ v. v.items ≡ fitted c.args.transport (answered (shown_zones old) xs q.message.message q.question))) of shown in
     let header : header_of c.header_octets-header-in-Query.result.now ≡ header_of octets = c.header_octets-header-in-Query.ensures.octets ∙ ap header_of of in
-    let none = subst (λ (h : Header). IfErr c.reply-in-Query.result (λ _. AreEffects (lack (Replied c.args.to (text (bare_reply h rcode_servfail)))) c.reply-in-Query-2.result)) header c.reply-in-Query-2.ensures.failed in
-    let s = on_any old c.args.self.now c.args.self.now c.reply-in-Query-2.result (request_lacks old c.args.to c.args.peer (handled (shown_zones old) octets c.args.transport)) (IsServedOrLacks old c.args.peer c.args.to octets c.args.transport)
-    (replies_or_lacks c.args.self.now old c.reply-in-Query-2.result c.args.peer c.args.to octets c.args.transport r reply c.in-Query.ensures.request (λ e. cc e) refl (rests g.S.ZoneStore c.args.self.now.zones.items c.args.self.now.pending.items (map kept_of old.zones) (λ x k h honest y left. g.met.S.ZoneStore.at_rest x k h honest y left) kept.zones_are) kept
-    (replied (λ v. v.items) c.reply-in-Query.result c.reply-in-Query-2.result c.args.to reply (text (bare_reply (header_of octets) rcode_servfail)) is c.reply-in-Query-2.ensures.sent none)) in
+    let none = subst (λ (h : Header). IfErr c.reply-octets.result (λ _. AreEffects (lack (Replied c.args.to (text (bare_reply h rcode_servfail)))) c.reply-in-Query.result)) header c.reply-in-Query.ensures.failed in
+    let s = on_any old c.args.self.now c.args.self.now c.reply-in-Query.result (request_lacks old c.args.to c.args.peer (handled (shown_zones old) octets c.args.transport)) (IsServedOrLacks old c.args.peer c.args.to octets c.args.transport)
+    (replies_or_lacks c.args.self.now old c.reply-in-Query.result c.args.peer c.args.to octets c.args.transport r reply c.in-Query.ensures.request (λ e. cc e) refl (rests g.S.ZoneStore c.args.self.now.zones.items c.args.self.now.pending.items (map kept_of old.zones) (λ x k h honest y left. g.met.S.ZoneStore.at_rest x k h honest y left) kept.zones_are) kept
+    (replied (λ v. v.items) c.reply-octets.result c.reply-in-Query.result c.args.to reply (text (bare_reply (header_of octets) rcode_servfail)) is c.reply-in-Query.ensures.sent none)) in
     record {
       fails = s.fails;
       failed = s.failed;
