@@ -14,7 +14,7 @@ returns-clause-answers g c =
       effects,
       goings,
       subst (λ (buffer : List ℕ). IsHandled g.N.Network g.L.Observer (Datagram c.args.peer (take c.args.count buffer)) effects goings old new) c.deref.ensures.value
-          (record { told = told; takes = λ m kept. c.lend.ensures.state.stepped m (Datagram c.args.peer (take c.args.count buffer)) c.step-effects.new.self c.step-effects.result (c.step-effects.ensures.step m (c.lend.ensures.state.kept m kept)); observed = c.observe.ensures; rest = refl; happened = c.deliver.ensures.happened.1 }),
+          (record { told = told; takes = λ m kept. c.lend.ensures.state.stepped m (Datagram c.args.peer (take c.args.count c.deref.result.now)) c.step-effects.new.self c.step-effects.result (c.step-effects.ensures.step m (c.lend.ensures.state.kept m kept)); observed = c.observe.ensures; rest = refl; happened = c.deliver.ensures.happened.1 }),
     )
 
 pub returns-clause-rested : goal.returns-clause-rested
